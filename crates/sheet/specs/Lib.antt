@@ -1,0 +1,10 @@
+pub mod Digits
+pub mod Lines
+pub mod Frames
+pub mod Sheets
+pub mod Written
+pub mod Content
+pub mod Front
+pub mod Area
+pub mod Copies
+pub mod Theorems
