@@ -1,0 +1,10 @@
+pub mod Sums
+pub mod Placements
+pub mod Prices
+pub mod Chains
+pub mod Walks
+pub mod Even
+pub mod Potentials
+pub mod Choice
+pub mod Searches
+pub mod Theorems
