@@ -19,7 +19,8 @@ use Rattle.capability.specs.Meaning.{Meaning, Lawful, nothing}
 use Rattle.sheet.specs.Digits.{digitsFor}
 use Rattle.sheet.specs.Lines.{Lines, over, open-ended, line, linesOf}
 use Rattle.sheet.specs.Frames.{Frame, frameIn, frameBytes, frameText}
-use Rattle.sheet.specs.Sheets.{Entry, Able, itemOf, rising, countDue, entryDue, member, listing, atEnd, goingOn, entriesIn, sheetIn, sheetOf, meaningOf}
+use Rattle.sets.specs.Sets.{member}
+use Rattle.sheet.specs.Sheets.{Entry, Able, itemOf, rising, countDue, entryDue, listing, atEnd, goingOn, entriesIn, sheetIn, sheetOf, meaningOf}
 use Rattle.sheet.specs.Written.{millsFor, entryText, countText, endText, entriesText, sheetText}
 use Rattle.sheet.proofs.EntriesLaws.{text-entry, entries-same, entries-none, entries-skip}
 use Rattle.sheet.proofs.FrameLaws.{Fits, frame-again}

@@ -21,7 +21,8 @@ use Rattle.capability.specs.Meaning.{Meaning, Lawful}
 use Rattle.sheet.specs.declared.frame.Entry.{Entry}
 use Rattle.sheet.specs.Digits.{bytesOf, digitsFor}
 use Rattle.sheet.specs.Frames.{Frame, frameBytes, frameText}
-use Rattle.sheet.specs.Sheets.{sheetOf, meaningOf, member}
+use Rattle.sets.specs.Sets.{member}
+use Rattle.sheet.specs.Sheets.{sheetOf, meaningOf}
 use Rattle.sheet.specs.Front.{FrontEntry}
 use Rattle.sheet.specs.Written.{millsFor, countText, endText, entriesText, sheetText}
 use Rattle.sheet.proofs.ByteLaws.{bytes-drop, bytes-take}
@@ -107,7 +108,7 @@ module _ (m : Meaning) (law : Lawful m) (program : ℕ) (small : program < 256) 
       let ms = millsFor m q in
       let others = entriesText m (q + 1) (255 - q) in
       let tail = others ++ endText in
-      let short = kept-short (m .able q) 0 (m .mills) in
+      let short = kept-short (m .able q) (m .mills) in
       let fits = fits-entry (m .mills) q ms (law .few) (next .high) short (kept-rising (m .able q) (m .mills)) in
       let text = frameText (record { kind = 2; payload = q ∷ ms }) in
       let is : rest ≡ text ++ tail = a .text ∙ ap (λ t. t ++ endText) (next .text) ∙ append-assoc text others endText in

@@ -17,7 +17,7 @@ entry-short p (x ∷ xs) few = omega (arith, length-frame (record { kind = 2; pa
 pub entries-short : (m : Meaning) (p n : ℕ) → m .mills ≤ 64 → length (entriesText m p n) ≤ 137 * n
 entries-short m p zero few = omega arith
 entries-short m p (suc n) few =
-    let first = entry-short p (millsFor m p) (omega (arith, kept-short (m .able p) 0 (m .mills))) in
+    let first = entry-short p (millsFor m p) (omega (arith, kept-short (m .able p) (m .mills))) in
     let rest = entries-short m (p + 1) n few in
     omega (arith, length-append (entryText p (millsFor m p)) (entriesText m (p + 1) n))
 

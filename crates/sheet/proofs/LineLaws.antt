@@ -21,11 +21,6 @@ pub lines-line : (cs rest : List ℕ) → All (λ c. c ≡ 10 → ⊥) cs → li
 lines-line [] rest plain = refl
 lines-line (c ∷ cs) rest plain = lines-front c (cs ++ (10 ∷ rest)) (plain .0) ∙ ap (fronted c) (lines-line cs rest (plain .1))
 
-pub lines-open : (cs : List ℕ) → 0 < length cs → All (λ c. c ≡ 10 → ⊥) cs → linesOf cs ≡ open-ended cs
-lines-open [] some plain = absurd (omega arith)
-lines-open (c ∷ []) some plain = lines-front c [] (plain .0)
-lines-open (c ∷ d ∷ cs) some plain = lines-front c (d ∷ cs) (plain .0) ∙ ap (fronted c) (lines-open (d ∷ cs) (omega arith) (plain .1))
-
 -- the text that has these lines
 abbrev pub textOf : Lines → List ℕ
 textOf over = []

@@ -9,7 +9,8 @@ use lib.ListN.{length}
 use Rattle.std.proofs.shelf.Elements.{all-weaker}
 use Rattle.std.proofs.shelf.Tests.{lt-ltb, and-right}
 use Rattle.capability.specs.Meaning.{Meaning, Lawful}
-use Rattle.sheet.specs.Sheets.{rising, member}
+use Rattle.sets.specs.Sets.{member}
+use Rattle.sheet.specs.Sheets.{rising}
 use Rattle.sheet.specs.Written.{millsFor}
 use Rattle.sheet.proofs.FrameLaws.{Fits}
 use Rattle.sheet.proofs.ItemLaws.{entryFrame}

@@ -18,7 +18,8 @@ use Rattle.capability.specs.Meaning.{Meaning, Lawful}
 use Rattle.sheet.specs.Digits.{digitsFor}
 use Rattle.sheet.specs.Lines.{Lines, line, linesOf}
 use Rattle.sheet.specs.Frames.{Frame, frameIn, frameBytes}
-use Rattle.sheet.specs.Sheets.{Entry, Able, itemOf, rising, andThen, countDue, entryDue, member, listing, atEnd, goingOn, entriesIn, sheetIn, sheetOf}
+use Rattle.sets.specs.Sets.{member}
+use Rattle.sheet.specs.Sheets.{Entry, Able, itemOf, rising, andThen, countDue, entryDue, listing, atEnd, goingOn, entriesIn, sheetIn, sheetOf}
 use Rattle.sheet.specs.Written.{millsFor, entryText, countText, endText, entriesText, sheetText}
 use Rattle.sheet.proofs.FrameLaws.{Fits, frame-back, lines-frame}
 use Rattle.sheet.proofs.ItemLaws.{countFrame, entryFrame, item-entry, entry-due, count-due}
@@ -58,7 +59,7 @@ module _ (m : Meaning) (law : Lawful m) where
       → entriesIn (m .mills) floor i (linesOf (entryText p xs ++ rest)) ≡ Ok (ableFrom m p)
   entry-back p floor i [] rest small high is after = after floor i (omega arith) ∙ ap Ok (none-more p is)
   entry-back p floor i (x ∷ xs) rest small high is after =
-      let short = subst (λ l. length l ≤ m .mills) is (kept-short (m .able p) 0 (m .mills)) in
+      let short = subst (λ l. length l ≤ m .mills) is (kept-short (m .able p) (m .mills)) in
       let rise = subst (λ l. rising 0 (m .mills) l ≡ true) is (kept-rising (m .able p) (m .mills)) in
       let few = law .few in
       let e : Entry = record { program = p; mills = x ∷ xs } in

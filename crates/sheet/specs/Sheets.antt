@@ -1,5 +1,5 @@
 -- A sheet: a frame with the count of mills, then program frames, then the end frame. What it means, or its first fault.
-use mathlib.Core.Bool.{Bool, true, false, cond, _&&_, _||_}
+use mathlib.Core.Bool.{Bool, true, cond, _&&_}
 use mathlib.Core.List.{List, [], _∷_}
 use Prim.Native.Nat.{ℕ, suc}
 use lib.Dec.{eqb, leb, ltb}
@@ -8,6 +8,7 @@ use Rattle.std.specs.declared.option.Option.{Option}
 use Rattle.std.specs.declared.option.Option.the-variants.{Some, None}
 use Rattle.std.specs.declared.result.Result.{Result}
 use Rattle.std.specs.declared.result.Result.the-variants.{Ok, Err}
+use Rattle.sets.specs.Sets.{member}
 use Rattle.vocabulary.specs.declared.refusal.Refusal.{Refusal}
 use Rattle.vocabulary.specs.declared.refusal.Refusal.the-variants.{BadLine, NotDue, WrongValue}
 use Rattle.capability.specs.Meaning.{Meaning, nothing}
@@ -68,10 +69,6 @@ entryDue mills floor number None = Err (NotDue number)
 -- which mills are able for which program
 abbrev pub Able : Type 0
 Able = ℕ → ℕ → Bool
-
-abbrev pub member : ℕ → List ℕ → Bool
-member x [] = false
-member x (y ∷ ys) = eqb x y || member x ys
 
 -- one program's mills, beside those of the others
 abbrev pub listing : Entry → Able → Able

@@ -1,7 +1,7 @@
 use mathlib.Core.Path.{_≡_}
 use lib.ListN.{drop}
 use Rattle.sheet.specs.Digits.{bytesOf}
-use Rattle.sheet.specs.Sheets.{member}
+use Rattle.sets.specs.Sets.{member}
 use Rattle.sheet.proofs.source.lists.Given as given
 
 abbrev pub Inv-loop-i : given.InvT-loop-i

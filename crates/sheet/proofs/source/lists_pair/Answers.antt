@@ -2,7 +2,8 @@ use mathlib.Core.Path.{sym, ap, subst, _∙_}
 use Prim.Native.Nat.{_<_, _≤_}
 use native.Mathlib.Omega.{arith}
 use Rattle.std.proofs.shelf.Tests.{le-ltb}
-use Rattle.sheet.specs.Sheets.{sheetOf, meaningOf, member}
+use Rattle.sets.specs.Sets.{member}
+use Rattle.sheet.specs.Sheets.{sheetOf, meaningOf}
 use Rattle.sheet.proofs.Canonical.{lawful-meaning}
 use Rattle.sheet.proofs.EntrySteps.{some-mill, no-mill}
 use Rattle.sheet.proofs.MillLaws.{able-member}
