@@ -6,7 +6,6 @@ pub mod ItemLaws
 pub mod RisingLaws
 pub mod MillLaws
 pub mod EntriesLaws
-pub mod LengthLaws
 pub mod NextEntry
 pub mod ReadBack
 pub mod Canonical
