@@ -6,7 +6,8 @@ ghost use Prim.Native.Nat.{ℕ, min, _≤_, _<_};
 ghost use lib.Dec.{eqb, ltb};
 ghost use lib.ListN.{length};
 ghost use Rattle.std.specs.Options.{Cases};
-ghost use Rattle.sets.specs.Sets.{has, members, remaining, Step};
+ghost use Rattle.std.specs.Orderings.{Decides};
+ghost use Rattle.sets.specs.Sets.{holds, has, members, remaining, Step};
 
 mod bits;
 #[cfg(test)]
@@ -33,6 +34,13 @@ impl NumberSet {
         NumberSet {
             bits: bits::low(count),
         }
+    }
+
+    /// The numbers whose bits are 1, bit 0 for the number 0.
+    pub fn from_bits(bits: u64) -> NumberSet
+        ensures { λ r. ⌜ ((k : ℕ) → has r k ≡ holds bits k) ⌝ }
+    {
+        NumberSet { bits }
     }
 
     /// Whether a number is a member; from 64 on none is.
@@ -81,6 +89,13 @@ impl NumberSet {
         NumberSet {
             bits: bits::first_only(self.bits, other.bits),
         }
+    }
+
+    /// Whether each member is a member of the other set too.
+    pub fn is_subset(self, other: NumberSet) -> bool
+        ensures { λ r. ⌜ Decides r ((k : ℕ) → has self k ≡ true → has other k ≡ true) ⌝ }
+    {
+        bits::within(self.bits, other.bits)
     }
 
     /// Whether there is no member.

@@ -5,6 +5,7 @@ ghost use Prim.Native.Nat.{ℕ, min, _≤_, _<_};
 ghost use lib.Dec.{eqb, ltb};
 ghost use lib.ListN.{length};
 ghost use Rattle.std.specs.Options.{Cases};
+ghost use Rattle.std.specs.Orderings.{Decides};
 ghost use Rattle.sets.specs.Sets.{holds, numbers};
 
 /// The bits below `count`: all 64 of them where `count` is above 64.
@@ -65,6 +66,13 @@ pub(super) fn first_only(a: u64, b: u64) -> u64
     ensures { λ r. ⌜ ((k : ℕ) → holds r k ≡ (holds a k && not (holds b k))) ⌝ }
 {
     a & !b
+}
+
+/// Whether each bit that is set in the first is set in the second.
+pub(super) fn within(a: u64, b: u64) -> bool
+    ensures { λ r. ⌜ Decides r ((k : ℕ) → holds a k ≡ true → holds b k ≡ true) ⌝ }
+{
+    first_only(a, b) == 0
 }
 
 /// How many bits are set.

@@ -32,6 +32,8 @@ fn sets(rt: LibcRuntime) -> Result<(), Fail> {
     check_eq(set.count(), 3)?;
     check_eq(set.first(), Some(0))?;
     check(set.contains(63) && !set.contains(7) && !set.contains(64))?;
+    check_eq(set, NumberSet::from_bits((1 << 63) + (1 << 9) + 1))?;
+    check(set.is_subset(NumberSet::below(64)) && !set.is_subset(NumberSet::below(63)))?;
     check_eq(NumberSet::below(200).difference(set).count(), 61)?;
     check_eq(
         listed(rt.alloc(), set.intersection(NumberSet::below(10)))?,

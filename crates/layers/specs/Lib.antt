@@ -1,0 +1,5 @@
+pub mod Tables
+pub mod Held
+pub mod Strikes
+pub mod Aliases
+pub mod Piles
