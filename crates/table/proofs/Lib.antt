@@ -1,0 +1,4 @@
+pub mod ScanSteps
+pub mod TallyLaws
+pub mod TableLaws
+pub mod EditSteps
