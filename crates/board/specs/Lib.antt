@@ -1,0 +1,5 @@
+pub mod Records
+pub mod Causes
+pub mod Rules
+pub mod Turns
+pub mod Runs
