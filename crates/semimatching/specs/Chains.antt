@@ -1,5 +1,5 @@
 -- Chains: from a mill through a ticket standing on it to another of that ticket's mills, and so forth, with no mill twice.
-use Rattle.std.specs.Prelude.{◌≡◌, ℕ, ◌+◌, ◌<◌, ◌≤◌, Bool, true, cond, List, [], ◌∷◌, Some, ◌==◌, ◌≢◌}
+use Rattle.std.specs.Prelude.{◌≡◌, ℕ, ◌+◌, ◌<◌, ◌≤◌, true, cond, List, [], ◌∷◌, Some, ◌==◌, ◌≢◌}
 use Rattle.semimatching.specs.Placements.{Shop, Placement, load}
 
 -- a ticket that goes to a mill

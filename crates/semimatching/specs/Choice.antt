@@ -1,5 +1,5 @@
 -- Which chain a call carries out: the rules, and the order that leaves one chain where the rules leave several.
-use Rattle.std.specs.Prelude.{◌≡◌, ℕ, ◌<◌, ◌≤◌, true, List, [], ◌∷◌, reverse}
+use Rattle.std.specs.Prelude.{◌≡◌, ℕ, ◌≤◌, true, List, [], ◌∷◌, reverse}
 use Rattle.semimatching.specs.Placements.{Shop, Placement, load}
 use Rattle.semimatching.specs.Chains.{Step, Chain, Improving}
 use Rattle.semimatching.specs.Walks.{NotAfter}

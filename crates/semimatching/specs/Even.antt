@@ -1,6 +1,6 @@
 -- A placement is even when no other semi-matching of the same tickets does better: not at any price list that never falls,
 -- not by its highest load, and not by the number of busy mills.
-use Rattle.std.specs.Prelude.{ℕ, suc, ◌≤◌, Bool, nat_lt}
+use Rattle.std.specs.Prelude.{ℕ, suc, ◌≤◌, nat_lt}
 use Rattle.semimatching.specs.Sums.{count_to, greatest_to}
 use Rattle.semimatching.specs.Placements.{Shop, Placement, load, SemiMatching, SameTickets}
 use Rattle.semimatching.specs.Prices.{alike, total}

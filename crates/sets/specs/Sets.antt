@@ -1,5 +1,5 @@
 -- Sets of the numbers 0 to 63, written as the bits of one number.
-use Rattle.std.specs.Prelude.{◌≡◌, ℕ, suc, ◌/◌, ◌%◌, ◌^◌, ◌<◌, ◌≤◌, Bool, true, false, ◌||◌, List, [], ◌∷◌, filter, Option, MatchOption, ◌==◌}
+use Rattle.std.specs.Prelude.{◌≡◌, ℕ, suc, ◌/◌, ◌%◌, ◌^◌, ◌<◌, ◌≤◌, Bool, false, ◌||◌, List, [], ◌∷◌, filter, Option, MatchOption, ◌==◌}
 use Rattle.std.specs.List.{range_with_len}
 use Rattle.sets.specs.declared.number_set.Members.{Members}
 use Rattle.sets.specs.declared.number_set.NumberSet.{NumberSet}

@@ -1,4 +1,6 @@
 //! The words that every layer shares: the numbers of tickets, programs and mills, and refusals.
+#![tactic(auto)]
+
 pub mod numbers;
 pub mod refusal;
 pub mod words;

@@ -6,8 +6,8 @@ use Rattle.sets.proofs.number_set.NumberSet.pop_first.Goals as goal
 
 pub returns : goal.returns
 returns c =
-    let least = c.in-ok-number.ensures in
-    numbers_first (has c.args.self.now) (has c.remove.new.self) c.in-ok-number.number 64 least.0 least.1 least.2 c.remove.ensures
+    let least = c.in_ok-number.ensures in
+    numbers_first (has c.args.self.now) (has c.remove.new.self) c.in_ok-number.number 64 least.0 least.1 least.2 c.remove.ensures
 
-pub returns-in-err-number : goal.returns-in-err-number
-returns-in-err-number c = rw c.from-residual.ensures (numbers-none (has c.args.self.now) 64 (λ k _. c.in-err-number.ensures k), refl)
+pub returns-in_err-number : goal.returns-in_err-number
+returns-in_err-number c = rw c.from_residual.ensures (numbers-none (has c.args.self.now) 64 (λ k _. c.in_err-number.ensures k), refl)

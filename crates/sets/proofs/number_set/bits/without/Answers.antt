@@ -11,4 +11,4 @@ returns c k =
     let n = c.args.number in
     let fits : bits < 2 ^ 64 = omega arith in
     let last : (holds bits k && not (eqb k n && ltb n 64)) ≡ (not (eqb k n) && holds bits k) = grind (arith, nat_tests, holds_past bits k fits) in
-    holds_and_not bits c.one.result k fits c.one.type-inv ∙ ap (λ t. holds bits k && not t) (c.one.ensures k) ∙ last
+    holds_and_not bits c.one.result k fits c.one.type_inv ∙ ap (λ t. holds bits k && not t) (c.one.ensures k) ∙ last

@@ -7,5 +7,5 @@ pub returns : goal.returns
 returns c =
     let xs = c.loop-number.yielded in
     let here = c.loop-number.number-iterator in
-    let split = members_split c.args.set xs here c.iter-number-items.ensures c.into-iter-number-iterator.ensures.into-iter-gives c.loop-number.yielded-by in
+    let split = members_split c.args.set xs here c.iter-number-items.ensures c.into_iter-number-iterator.ensures.into_iter_gives c.loop-number.yielded_by in
     c.loop-number.invariant ∙ members_end c.args.set xs here split c.in-None.ensures.steps.0
