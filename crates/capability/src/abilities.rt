@@ -17,7 +17,7 @@ pub struct Abilities {
 impl Abilities {
     /// Copies what a source means.
     pub fn of<S: Source>(source: &S) -> Abilities
-        ensures { copied result ≡ meaning source.now }
+        ensures { copied result ≡ S.meaning source.now }
     {
         copy_of(source)
     }
@@ -39,7 +39,7 @@ impl Abilities {
 
 /// Asks a source for each of its pairs once.
 fn copy_of<S: Source>(source: &S) -> Abilities
-    ensures { copied result ≡ meaning source.now }
+    ensures { copied result ≡ S.meaning source.now }
 {
     let mills = source.mills();
     let mut rows = [NumberSet::empty(); 256];
@@ -51,7 +51,7 @@ fn copy_of<S: Source>(source: &S) -> Abilities
 
 /// The mills that are able for a program, each of the first `mills` mills asked for once.
 fn row_of<S: Source>(source: &S, program: Program, mills: u8) -> NumberSet
-    ensures { (k : ℕ) → has result k ≡ (nat_lt k mills && (meaning source.now).able program.0 k) }
+    ensures { (k : ℕ) → has result k ≡ (nat_lt k mills && (S.meaning source.now).able program.0 k) }
 {
     let mut row = NumberSet::empty();
     for mill in 0..mills {

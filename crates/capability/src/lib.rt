@@ -1,4 +1,6 @@
 //! What a shop can do: the meaning of a capability source, and what every source has to answer.
+#![tactic(auto)]
+
 pub mod abilities;
 pub mod source;
 

@@ -26,7 +26,7 @@ pub fn able_struck_over_aliased<S: Source>(
     program: Program,
     mill: Mill,
 ) -> bool
-    ensures { result ≡ struck_over_aliased (held strikes.now.table) (held strikes.now.source.table) (meaning strikes.now.source.source) program.0 mill.0 }
+    ensures { result ≡ struck_over_aliased (held strikes.now.table) (held strikes.now.source.table) (S.meaning strikes.now.source.source) program.0 mill.0 }
 {
     strikes.able(program, mill)
 }
@@ -37,7 +37,7 @@ pub fn able_aliased_over_struck<S: Source>(
     program: Program,
     mill: Mill,
 ) -> bool
-    ensures { result ≡ aliased_over_struck (held aliases.now.table) (held aliases.now.source.table) (meaning aliases.now.source.source) program.0 mill.0 }
+    ensures { result ≡ aliased_over_struck (held aliases.now.table) (held aliases.now.source.table) (S.meaning aliases.now.source.source) program.0 mill.0 }
 {
     aliases.able(program, mill)
 }

@@ -113,14 +113,14 @@ fn write(abilities: &Abilities, area: &mut [u8]) -> Result<usize, Refusal>
 
 /// Copies what a source means, and writes the sheet of the copy.
 fn write_copy<S: Source>(source: &S, area: &mut [u8]) -> Result<usize, Refusal>
-    ensures { MatchResult result (λ long. (unwritten (meaning source.now) (length area.old) ≡ None) × Wrote (meaning source.now) area.old long area.new) (λ e. (unwritten (meaning source.now) (length area.old) ≡ Some e) × (area.new ≡ area.old)) }
+    ensures { MatchResult result (λ long. (unwritten (S.meaning source.now) (length area.old) ≡ None) × Wrote (S.meaning source.now) area.old long area.new) (λ e. (unwritten (S.meaning source.now) (length area.old) ≡ Some e) × (area.new ≡ area.old)) }
 {
     write(&Abilities::of(source), area)
 }
 
 /// Writes the one sheet of a source to the front of a text area, and tells its length. The area behind it is left as it was; a refusal leaves all of it.
 pub fn write_sheet<S: Source>(source: &S, area: &mut [u8]) -> Result<usize, Refusal>
-    ensures { MatchResult result (λ long. (unwritten (meaning source.now) (length area.old) ≡ None) × Wrote (meaning source.now) area.old long area.new) (λ e. (unwritten (meaning source.now) (length area.old) ≡ Some e) × (area.new ≡ area.old)) }
+    ensures { MatchResult result (λ long. (unwritten (S.meaning source.now) (length area.old) ≡ None) × Wrote (S.meaning source.now) area.old long area.new) (λ e. (unwritten (S.meaning source.now) (length area.old) ≡ Some e) × (area.new ≡ area.old)) }
 {
     write_copy(source, area)
 }
