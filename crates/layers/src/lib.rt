@@ -1,4 +1,6 @@
 //! Layers over a source: strikes take pairs out of it, aliases have programs cut as others.
+#![tactic(auto)]
+
 pub mod aliases;
 mod pairs;
 pub mod piles;

@@ -8,7 +8,7 @@ use Rattle.std.proofs.lemmas.List.{length-map, map_push, get_or-map, take_more, 
 use Rattle.std.proofs.lemmas.Bool.{ltb-true, leb-true, lt-ltb, le-ltb, le-leb, lt-leb, cases_lt, false≢true, and_parts, and_from, and_left, and_right, cond-true, cond-false}
 use Rattle.std.proofs.lemmas.Bool.Decides.{same_from_decides, Decides-like, nat_tests}
 use Rattle.vocabulary.specs.declared.refusal.Refusal.{Refusal}
-use Rattle.sets.specs.Sets.{holds, numbers}
+use Rattle.sets.specs.Sets.{numbers}
 use Rattle.sets.proofs.Rising.{numbers_all, all_numbers}
 use Rattle.capability.specs.Meaning.{Lawful, nothing}
 use Rattle.tools.specs.Tools.{few_tools, magazine_fault, first_fault, can_cut, no_mill, no_program, sound_mills, table_meaning, tool_meaning}

@@ -1,4 +1,6 @@
 //! The tool rule: a source that answers from a shop's tables of mills and programs.
+#![tactic(auto)]
+
 pub mod magazine;
 pub mod tools;
 

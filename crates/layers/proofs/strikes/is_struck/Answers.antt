@@ -1,6 +1,5 @@
-use Rattle.std.proofs.Common.{is_some, ap, ◌∙◌, ap₂}
+use Rattle.std.proofs.Common.{is_some, ap, ◌∙◌}
 use Rattle.layers.specs.Held.{held}
-use Rattle.layers.specs.Strikes.{struck}
 use Rattle.layers.specs.Tables.{is_pair, place_in}
 use Rattle.layers.specs.StrikeSteps.{found_struck}
 use Rattle.layers.proofs.strikes.is_struck.Goals as goal
@@ -9,4 +8,4 @@ pub returns : goal.returns
 returns c =
     let p = c.args.program.0 in
     let m = c.args.mill.0 in
-    c.is-some.ensures ∙ ap is_some (c.find.ensures.value ∙ ap (place_in (is_pair p m)) c.held.ensures) ∙ found_struck p m (held c.args.table.now)
+    c.is_some.ensures ∙ ap is_some (c.find.ensures.value ∙ ap (place_in (is_pair p m)) c.held.ensures) ∙ found_struck p m (held c.args.table.now)

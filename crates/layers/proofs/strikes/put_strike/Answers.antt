@@ -8,5 +8,5 @@ returns c =
     let p = c.args.program.0 in
     let m = c.args.mill.0 in
     let before = held c.args.table.now in
-    let out = c.if-is-struck.ensures in
+    let out = c.if-is_struck.ensures in
     MatchResult-weaker c.add.result c.add.ensures (λ _ put. strike_more p m before (held c.add.new.self) out put) (λ e full. (strike_refused p m before e out full.0, full.1))

@@ -9,7 +9,7 @@ returns-in-Err c =
 pub loop-row-preserved : goal.loop-row-preserved
 loop-row-preserved c =
     stored_more c.args.rows.now c.loop-row.row-index (vec_items c.loop-row.mills) c.loop-row.invariant _ c.in-Ok.mill (vec_items c.push.new.self) c.loop-row-test.true c.in-Ok.ensures.0
-    c.in-Ok.ensures.1 c.in-ok-push.ensures.items
+    c.in-Ok.ensures.1 c.in_ok-push-in-Ok.ensures.items
 
 pub returns : goal.returns
-returns c = stored_all c.args.rows.now c.loop-row.row-index (vec_items c.loop-row.mills) c.loop-row.invariant c.if-rows-gt-MOST-MILLS.false c.loop-row-test.false
+returns c = stored_all c.args.rows.now c.loop-row.row-index (vec_items c.loop-row.mills) c.loop-row.invariant c.if-rows-gt-MOST_MILLS.false c.loop-row-test.false

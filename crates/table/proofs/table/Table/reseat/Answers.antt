@@ -14,17 +14,17 @@ returns-then-place-ge-TICKETS c =
     }
 
 pub leave-requires : goal.leave-requires
-leave-requires c = may_leave c.args.self.now c.from-place.result c.if-place-ge-TICKETS.false c.seat-at-before.result c.seat-at-before.ensures
+leave-requires c = may_leave c.args.self.now c.from-place.result c.if-place-ge-TICKETS.false c.seat_at-before.result c.seat_at-before.ensures
 
 pub enter-requires : goal.enter-requires
-enter-requires c = may_enter c.args.self.now c.seat-at-before.result c.leave.new.loads c.leave.ensures c.args.seat c.requires.may
+enter-requires c = may_enter c.args.self.now c.seat_at-before.result c.leave.new.loads c.leave.ensures c.args.seat c.requires.may
 
-pub invariant-of-self : goal.invariant-of-self
-invariant-of-self c =
+pub invariant_of-self : goal.invariant_of-self
+invariant_of-self c =
     let table = c.args.self.now in
     let place = c.from-place.result in
     let exists = c.if-place-ge-TICKETS.false in
     let able = reseated_able table place exists c.args.seat c.requires.may in
-    let counted = reseated_counted table c.seat-at-before.result c.leave.new.loads c.leave.ensures place exists c.seat-at-before.ensures c.args.seat c.enter.new.loads c.enter.ensures in
+    let counted = reseated_counted table c.seat_at-before.result c.leave.new.loads c.leave.ensures place exists c.seat_at-before.ensures c.args.seat c.enter.new.loads c.enter.ensures in
     let whole = reseated_whole table place exists c.args.seat in
-    (table.below, (able, (counted, (table.few, (whole, tt)))))
+    record { below = table.below; able = able; counted = counted; few = table.few; whole = whole }
