@@ -1,5 +1,5 @@
 -- The bytes that digits write, place by place: byte i stands at the digits 2 i and 2 i + 1.
-use Rattle.std.proofs.Common.{◌≡◌, ℕ, zero, suc, ◌+◌, ◌*◌, ◌<◌, ◌≤◌, List, [], ◌∷◌, length, get_or, take, drop, sym, refl, ap, ◌∙◌, subst, add-suc, mul-suc, add-one, arith}
+use Rattle.std.proofs.Common.{◌≡◌, ℕ, zero, suc, ◌+◌, ◌*◌, ◌<◌, List, [], ◌∷◌, length, get_or, take, drop, sym, refl, ap, ◌∙◌, mul-suc, arith}
 use Rattle.sheet.specs.Digits.{byte_of, bytes_of}
 
 -- twice a number, by steps that lists follow

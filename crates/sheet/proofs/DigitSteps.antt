@@ -1,5 +1,5 @@
 -- One character, and one byte, more: the steps of the loops over a line's digits.
-use Rattle.std.proofs.Common.{◌≡◌, ℕ, ◌+◌, ◌*◌, ◌/◌, ◌%◌, ◌<◌, ◌≤◌, Bool, true, false, ◌&&◌, List, [], ◌∷◌, length, get_or, drop, is_some, sum_by as sumBy, sum, sym, refl, ap, ◌∙◌, arith}
+use Rattle.std.proofs.Common.{◌≡◌, ℕ, ◌+◌, ◌/◌, ◌%◌, ◌<◌, ◌≤◌, Bool, true, ◌&&◌, List, length, get_or, drop, is_some, sum_by as sumBy, sum, sym, ap, ◌∙◌, arith}
 use Rattle.std.proofs.lemmas.List.{at_drop_more, at_drop_all, map-id}
 use Rattle.std.proofs.lemmas.List.Sums.{sum_by-drop_more, sum-map}
 use Rattle.sheet.specs.Digits.{digit_of, bytes_of, all_digits}

@@ -11,7 +11,7 @@ use Rattle.sheet.specs.Frames.{Frame, frame_bytes, frame_text}
 use Rattle.sets.specs.Sets.{member}
 use Rattle.sheet.specs.Sheets.{sheet_of, meaning_of}
 use Rattle.sheet.specs.Front.{FrontEntry}
-use Rattle.sheet.specs.Written.{mills_for, count_text, end_text, entries_text, sheet_text}
+use Rattle.sheet.specs.Written.{mills_for, count_text, end_text, entries_text}
 use Rattle.sheet.proofs.ByteLaws.{bytes_drop, bytes_take}
 use Rattle.sheet.proofs.Canonical.{canonical, lawful_sheet}
 use Rattle.sheet.proofs.DigitLaws.{byte_back, length_bytes}

@@ -1,9 +1,9 @@
 -- The three faults of a line, one after the other, and the frame that is left when none is found.
-use Rattle.std.proofs.Common.{◌≡◌, ℕ, ◌+◌, ◌-◌, ◌*◌, ◌/◌, ◌%◌, ◌≤◌, true, false, eqb, List, length, get_or, take, drop, Ok, Err, sum, sym, refl, ap, ◌∙◌, arith}
-use Rattle.std.proofs.lemmas.Bool.{cond-true, cond-false, eq-eqb, ne_eqb, and_parts, leb-true}
+use Rattle.std.proofs.Common.{◌≡◌, ℕ, ◌-◌, ◌*◌, ◌/◌, ◌%◌, true, false, List, length, get_or, take, drop, Ok, Err, sum, sym, refl, ap, ◌∙◌}
+use Rattle.std.proofs.lemmas.Bool.{cond-true, cond-false, eq-eqb, ne_eqb}
 use Rattle.vocabulary.specs.declared.refusal.Refusal.TheVariants.{BadLine, WrongCount, WrongSum}
 use Rattle.sheet.specs.Digits.{bytes_of}
-use Rattle.sheet.specs.Frames.{Frame, well_formed, framed, frame_in}
+use Rattle.sheet.specs.Frames.{well_formed, framed, frame_in}
 use Rattle.sheet.proofs.ByteLaws.{bytes_drop, bytes_take}
 use Rattle.sheet.proofs.DigitLaws.{length_bytes}
 

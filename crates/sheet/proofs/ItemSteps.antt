@@ -1,13 +1,13 @@
 -- What a frame is in a sheet, by the kind and the number of payload digits that the frame reader looks at.
-use Rattle.std.proofs.Common.{◌≡◌, ℕ, ◌+◌, ◌-◌, ◌*◌, ◌/◌, ◌<◌, ◌≤◌, Bool, true, false, ◌&&◌, eqb, leb, List, length, get_or, take, drop, Some, None, Ok, Err, sym, refl, ap, ◌∙◌, ⊎_elim, arith}
+use Rattle.std.proofs.Common.{◌≡◌, ℕ, ◌-◌, ◌≤◌, Bool, true, false, ◌&&◌, eqb, leb, List, length, get_or, take, drop, Some, None, Ok, Err, sym, refl, ap, ◌∙◌, ⊎_elim}
 use Rattle.vocabulary.specs.declared.refusal.Refusal.{Refusal}
 use Rattle.vocabulary.specs.declared.refusal.Refusal.TheVariants.{NotDue}
 use Rattle.std.proofs.lemmas.List.{take_rest, nil_from_length}
-use Rattle.std.proofs.lemmas.Bool.{cond-true, cond-false, eq-eqb, ne_eqb, eqb-true, eqb-false, leb-true, le-leb, and_parts, and_from, cases_Bool}
+use Rattle.std.proofs.lemmas.Bool.{cond-true, cond-false, eq-eqb, eqb-true, eqb-false, leb-true, le-leb, and_parts, and_from, cases_Bool}
 use Rattle.sheet.specs.Digits.{bytes_of}
 use Rattle.sheet.specs.Lines.{Lines, over, open_ended, line, lines_of}
 use Rattle.sheet.specs.Frames.{Frame, first_frame}
-use Rattle.sheet.specs.Sheets.{Entry, Item, count, entry, end, item_of, and_then, first_item}
+use Rattle.sheet.specs.Sheets.{count, entry, item_of, and_then, first_item}
 use Rattle.sheet.proofs.ByteLaws.{bytes_drop}
 use Rattle.sheet.proofs.LineLaws.{text_of, text_again}
 

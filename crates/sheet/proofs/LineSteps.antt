@@ -1,13 +1,12 @@
 -- Where the first line of a text ends, and that a text without a line feed in reach has no good line.
-use Rattle.std.proofs.Common.{◌≡◌, ℕ, ◌+◌, ◌-◌, ◌%◌, ◌<◌, ◌≤◌, min, true, false, eqb, leb, List, [], ◌∷◌, ◌++◌, length, get_or, take, drop, Err, sym, refl, ap, ◌∙◌, subst, ⊎_elim, add-one, arith, length-append, length-drop, take-append-drop, length-take, length-take-le, drop-cons, get_or-take}
-use Rattle.std.specs.List.{AllByRecursion as All}
+use Rattle.std.proofs.Common.{◌≡◌, ℕ, ◌+◌, ◌-◌, ◌%◌, ◌<◌, ◌≤◌, min, false, eqb, leb, List, ◌∷◌, ◌++◌, length, get_or, take, drop, Err, sym, refl, ap, ◌∙◌, subst, ⊎_elim, add-one, arith, length-append, length-drop, take-append-drop, length-take, length-take-le, drop-cons, get_or-take}
 use Rattle.std.proofs.ByRecursion.{All-from_get_or}
 use Rattle.std.proofs.lemmas.List.{get_or_at, take_rest}
 use Rattle.std.proofs.lemmas.Bool.{and_right, lt-leb, cases_lt}
 use Rattle.vocabulary.specs.declared.refusal.Refusal.TheVariants.{BadLine}
 use Rattle.sheet.specs.Digits.{all_digits}
 use Rattle.sheet.specs.Lines.{Lines, over, open_ended, line, lines_of}
-use Rattle.sheet.specs.Frames.{well_formed, frame_in, first_frame}
+use Rattle.sheet.specs.Frames.{well_formed, first_frame}
 use Rattle.sheet.specs.Content.{EndsAt, Split}
 use Rattle.sheet.proofs.LineLaws.{lines_line, text_of, text_again}
 use Rattle.sheet.proofs.FrameSteps.{bad_line}

@@ -1,5 +1,5 @@
 -- What one frame of a sheet does to what the rest of it lists: the steps of the sheet reader.
-use Rattle.std.proofs.Common.{◌≡◌, ℕ, suc, ◌<◌, List, length, Some, None, Ok, Err, Option, Result, sym, refl, ap, ◌∙◌}
+use Rattle.std.proofs.Common.{◌≡◌, ℕ, suc, List, length, Some, None, Ok, Err, Option, Result, sym, refl, ap, ◌∙◌}
 use Rattle.std.specs.Option.{option_map}
 use Rattle.std.specs.Result as results
 use Rattle.vocabulary.specs.declared.refusal.Refusal.{Refusal}

@@ -1,5 +1,5 @@
 -- What the readers' values stand for, as the definitions of frames and sheets have it.
-use Rattle.std.specs.Prelude.{◌≡◌, ℕ, suc, ◌<◌, ◌≤◌, List, length, Ok, Err, Option, ◌≢◌, slice_index, slice_index_or}
+use Rattle.std.specs.Prelude.{◌≡◌, ℕ, suc, ◌<◌, ◌≤◌, List, length, Ok, Option, ◌≢◌, slice_index, slice_index_or}
 use Rattle.sheet.specs.Digits.{bytes_of}
 use Rattle.sheet.specs.Lines.{line, lines_of}
 use Rattle.sheet.specs.Frames.{Frame, first_frame, after_first}

@@ -1,8 +1,8 @@
 -- The one sheet that writes a meaning: the count of mills, a frame for each program that some mill can cut, and the end.
-use Rattle.std.specs.Prelude.{ℕ, cond, List, [], ◌∷◌, ◌++◌, filter}
+use Rattle.std.specs.Prelude.{ℕ, List, [], ◌∷◌, ◌++◌, filter}
 use Rattle.std.specs.List.{range_with_len, flat_map}
 use Rattle.capability.specs.Meaning.{Meaning}
-use Rattle.sheet.specs.Frames.{Frame, frame_text}
+use Rattle.sheet.specs.Frames.{frame_text}
 
 -- the mills that are able for a program, rising
 abbrev pub mills_for : Meaning → ℕ → List ℕ

@@ -1,4 +1,6 @@
 //! Capability sheets: the shop's text, read, answered from, compared and written.
+#![tactic(auto)]
+
 mod compare;
 mod digits;
 mod frame;

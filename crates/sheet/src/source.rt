@@ -1,5 +1,6 @@
 //! The sheet source: a shop's text, kept for reading only, that answers for the shop's abilities.
 ghost use Rattle.std.specs.Prelude.{◌≡◌, ℕ, ◌+◌, ◌*◌, ◌≤◌, true, length, is_ok, slice_index};
+ghost use Rattle.capability.specs.Meaning.{Lawful};
 ghost use Rattle.sheet.specs.Front.{FrontEntry};
 ghost use Rattle.sheet.specs.Digits.{bytes_of};
 ghost use Rattle.sets.specs.Sets.{member};
@@ -18,6 +19,7 @@ pub struct SheetSource<'a> {
     text: &'a [u8],
     mills: u8,
     ghost counted: { mills ≡ (meaning_of (sheet_of text.now)).mills },
+    ghost keeps_law: { Lawful (meaning_of (sheet_of text.now)) },
 }
 
 impl<'a> SheetSource<'a> {
@@ -100,6 +102,8 @@ fn lists_pair(text: &[u8], mills: u8, program: Program, mill: Mill) -> bool
 
 impl<'a> Source for SheetSource<'a> {
     ghost meaning = { λ source. meaning_of (sheet_of source.text.now) };
+
+    ghost lawful = { λ source. source.keeps_law };
 
     fn mills(&self) -> u8 {
         self.mills

@@ -3,4 +3,4 @@ use Rattle.sheet.proofs.ByteLaws.{get_d_bytes}
 use Rattle.sheet.proofs.digits.byte_at.Goals as goal
 
 pub returns : goal.returns
-returns c = c.byte-value.ensures ∙ sym (get_d_bytes c.args.digits.now c.args.index c.requires)
+returns c = c.byte_value.ensures ∙ sym (get_d_bytes c.args.digits.now c.args.index c.requires)

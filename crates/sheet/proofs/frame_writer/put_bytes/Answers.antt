@@ -7,7 +7,7 @@ loop-i-init c = bytes_none c.args.area.now c.args.at c.args.bytes.now c.requires
 pub loop-i-preserved : goal.loop-i-preserved
 loop-i-preserved c =
     bytes_more c.args.area.now c.args.at c.args.bytes.now c.requires c.loop-i.i c.loop-i.total c.loop-i.area c.loop-i.invariant
-    c.put-byte.new.area c.loop-i-test.true c.put-byte.ensures
+    c.put_byte.new.area c.loop-i-test.true c.put_byte.ensures
 
 pub returns : goal.returns
 returns c = record {

@@ -9,6 +9,6 @@ returns c =
     record {
       behind = behind_frame kind payload area c.args.at c.requires.room;
       text =
-          frame_put kind payload area c.args.at c.requires.room c.put-byte.new.area c.put-byte-2.new.area c.put-bytes-total.new.area c.put-byte-3.new.area _
-          (check_is kind payload c.put-bytes-total.result c.put-bytes-total.ensures.total) c.put-byte.ensures c.put-byte-2.ensures c.put-bytes-total.ensures.text c.put-byte-3.ensures;
+          frame_put kind payload area c.args.at c.requires.room c.put_byte.new.area c.put_byte-2.new.area c.put_bytes-total.new.area c.put_byte-3.new.area _
+          (check_is kind payload c.put_bytes-total.result c.put_bytes-total.ensures.total) c.put_byte.ensures c.put_byte-2.ensures c.put_bytes-total.ensures.text c.put_byte-3.ensures;
     }

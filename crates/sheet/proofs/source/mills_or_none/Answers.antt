@@ -1,4 +1,4 @@
-use Rattle.std.proofs.Common.{◌≡◌, ℕ, Ok, Err, Result, refl, ap, ◌∙◌}
+use Rattle.std.proofs.Common.{◌≡◌, Ok, Err, Result, refl, ap, ◌∙◌}
 use Rattle.std.specs.Result.{result_unwrap_or, result_map_both}
 use Rattle.vocabulary.specs.declared.refusal.Refusal.{Refusal}
 use Rattle.capability.specs.Meaning.{Meaning}
@@ -11,4 +11,4 @@ count_or_none (Ok m) = refl
 count_or_none (Err e) = refl
 
 pub returns : goal.returns
-returns c = c.unwrap-or.ensures ∙ ap (λ r. result_unwrap_or r 0) c.check.ensures ∙ count_or_none (sheet_of c.args.text.now)
+returns c = c.unwrap_or.ensures ∙ ap (λ r. result_unwrap_or r 0) c.check.ensures ∙ count_or_none (sheet_of c.args.text.now)

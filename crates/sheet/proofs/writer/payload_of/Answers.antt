@@ -4,31 +4,31 @@ use Rattle.sheet.proofs.PayloadSteps.{mills_before, filled_more, filled_few, fil
 use Rattle.sheet.proofs.writer.payload_of.Goals as goal
 
 -- what the loop starts from
-from_row : (c : goal.In-Some) → remaining c.into-iter-mill-iterator.result ≡ members c.args.row
-from_row c = ap remaining c.into-iter-mill-iterator.ensures.into-iter-gives ∙ c.iter-mill-items.ensures
+from_row : (c : goal.In-Some) → remaining c.into_iter-mill-iterator.result ≡ members c.args.row
+from_row c = ap remaining c.into_iter-mill-iterator.ensures.into_iter_gives ∙ c.iter-mill-items.ensures
 
 before : (c : goal.In-Some) → length c.loop-mill.yielded < 64
 before c =
-    mills_before c.args.row c.into-iter-mill-iterator.result c.loop-mill.mill-iterator c.loop-mill.yielded (from_row c) c.loop-mill.yielded-by
+    mills_before c.args.row c.into_iter-mill-iterator.result c.loop-mill.mill-iterator c.loop-mill.yielded (from_row c) c.loop-mill.yielded_by
     c.in-Some.mill c.next.new.self c.in-Some.ensures.steps
 
 pub bounds-payload-count : goal.bounds-payload-count
 bounds-payload-count c = omega (arith, before c, c.loop-mill.invariant.1)
 
-pub overflow-add-count : goal.overflow-add-count
-overflow-add-count c = omega (arith, before c, c.loop-mill.invariant.1)
+pub overflow_add-count : goal.overflow_add-count
+overflow_add-count c = omega (arith, before c, c.loop-mill.invariant.1)
 
 pub loop-mill-preserved : goal.loop-mill-preserved
 loop-mill-preserved c =
-    filled_more c.args.row c.into-iter-mill-iterator.result c.loop-mill.mill-iterator c.loop-mill.yielded (from_row c) c.loop-mill.yielded-by
+    filled_more c.args.row c.into_iter-mill-iterator.result c.loop-mill.mill-iterator c.loop-mill.yielded (from_row c) c.loop-mill.yielded_by
     c.in-Some.mill c.next.new.self c.in-Some.ensures.steps (c.args.program.0 ∷ []) c.loop-mill.count c.loop-mill.payload c.loop-mill.invariant
 
 pub returns : goal.returns
 returns c =
-    let from = ap remaining c.into-iter-mill-iterator.ensures.into-iter-gives ∙ c.iter-mill-items.ensures in
+    let from = ap remaining c.into_iter-mill-iterator.ensures.into_iter_gives ∙ c.iter-mill-items.ensures in
     record {
-      few = filled_few c.args.row c.into-iter-mill-iterator.result c.loop-mill.mill-iterator c.loop-mill.yielded from c.loop-mill.yielded-by
+      few = filled_few c.args.row c.into_iter-mill-iterator.result c.loop-mill.mill-iterator c.loop-mill.yielded from c.loop-mill.yielded_by
           (c.args.program.0 ∷ []) c.loop-mill.count c.loop-mill.payload c.loop-mill.invariant c.in-None.ensures.steps.0;
-      bytes = filled_all c.args.row c.into-iter-mill-iterator.result c.loop-mill.mill-iterator c.loop-mill.yielded from c.loop-mill.yielded-by
+      bytes = filled_all c.args.row c.into_iter-mill-iterator.result c.loop-mill.mill-iterator c.loop-mill.yielded from c.loop-mill.yielded_by
           (c.args.program.0 ∷ []) c.loop-mill.count c.loop-mill.payload c.loop-mill.invariant c.in-None.ensures.steps.0;
     }

@@ -5,8 +5,8 @@ use Rattle.sheet.proofs.writer.put_entries.Goals as goal
 pub loop-program-init : goal.loop-program-init
 loop-program-init c = entries_none c.args.abilities.now c.args.area.now c.args.at c.requires.room
 
-pub put-entry-end-requires : goal.put-entry-end-requires
-put-entry-end-requires c = record {
+pub put_entry-end-requires : goal.put_entry-end-requires
+put_entry-end-requires c = record {
   lawful = c.requires.lawful;
   room =
       entry_room c.args.abilities.now c.args.area.now c.args.at c.requires.room c.loop-program.program c.loop-program.end c.loop-program.area c.loop-program.invariant
@@ -16,7 +16,7 @@ put-entry-end-requires c = record {
 pub loop-program-preserved : goal.loop-program-preserved
 loop-program-preserved c =
     entries_more c.args.abilities.now c.args.area.now c.args.at c.requires.room c.loop-program.program c.loop-program.end c.loop-program.area c.loop-program.invariant
-    c.put-entry-end.result c.put-entry-end.new.area c.put-entry-end.ensures.behind c.put-entry-end.ensures.text
+    c.put_entry-end.result c.put_entry-end.new.area c.put_entry-end.ensures.behind c.put_entry-end.ensures.text
 
 pub returns : goal.returns
 returns c =
