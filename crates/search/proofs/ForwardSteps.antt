@@ -1,5 +1,5 @@
 -- The search from a new ticket as its code goes: what has been reached, by which links, and what a step more gives.
-use Rattle.std.proofs.Common.{◌≡◌, ℕ, zero, suc, ◌+◌, ◌<◌, ◌≤◌, Bool, ◌⊎◌, List, [], ◌∷◌, ◌++◌, length, get_or, Some, None, Option, sym, refl, ap, ◌∙◌, subst, subst₂, inl, inr, ⊎_elim, arith, MatchOption}
+use Rattle.std.proofs.Common.{◌≡◌, ℕ, zero, suc, ◌+◌, ◌<◌, ◌≤◌, Bool, List, [], ◌∷◌, ◌++◌, length, get_or, Some, None, Option, sym, refl, ap, ◌∙◌, subst, subst₂, inl, inr, ⊎_elim, arith, MatchOption}
 use Rattle.semimatching.specs.Placements.{Shop, Placement, load}
 use Rattle.semimatching.specs.Chains.{Step}
 use Rattle.semimatching.specs.Searches.{FromTicket}

@@ -1,4 +1,6 @@
 //! The two searches of a board, and the carrying out of what they find.
+#![tactic(auto)]
+
 mod backward;
 mod forward;
 mod link;

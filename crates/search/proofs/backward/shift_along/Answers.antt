@@ -5,22 +5,22 @@ use Rattle.search.proofs.BackwardSteps.{sought_some, sought_few}
 use Rattle.search.proofs.backward.shift_along.Goals as goal
 
 pub heaviest-from-requires : goal.heaviest-from-requires
-heaviest-from-requires c = let S = c.search-to-trail.ensures in record { some = sought_some S; few = sought_few S (semi c.args.table.now) }
+heaviest-from-requires c = let S = c.search_to-trail.ensures in record { some = sought_some S; few = sought_few S (semi c.args.table.now) }
 
-pub overflow-add-load : goal.overflow-add-load
-overflow-add-load c = let few : c.load-2.result ≤ 1024 = omega (arith, c.load-2.ensures, load-few c.args.table.now c.args.mill.0) in search rules
+pub overflow_add-load : goal.overflow_add-load
+overflow_add-load c = let few : c.load-2.result ≤ 1024 = omega (arith, c.load-2.ensures, load-few c.args.table.now c.args.mill.0) in search rules
 
 pub returns-then-load : goal.returns-then-load
 returns-then-load c =
-    shift_none c.args.table.now c.args.mill.0 c.search-to-trail.ensures c.heaviest-from.ensures
+    shift_none c.args.table.now c.args.mill.0 c.search_to-trail.ensures c.heaviest-from.ensures
     (omega (arith, c.if-load.true, c.load.ensures, c.load-2.ensures))
 
-pub carry-from-requires : goal.carry-from-requires
-carry-from-requires c =
-    shift_on c.args.table.now c.args.mill.0 c.search-to-trail.ensures c.heaviest-from.ensures
+pub carry_from-requires : goal.carry_from-requires
+carry_from-requires c =
+    shift_on c.args.table.now c.args.mill.0 c.search_to-trail.ensures c.heaviest-from.ensures
     (omega (arith, c.if-load.false, c.load.ensures, c.load-2.ensures))
 
 pub returns : goal.returns
 returns c =
-    shift_done c.args.table.now c.args.mill.0 c.search-to-trail.ensures c.heaviest-from.ensures
-    (omega (arith, c.if-load.false, c.load.ensures, c.load-2.ensures)) _ c.carry-from.ensures.meaning c.carry-from.ensures.tally
+    shift_done c.args.table.now c.args.mill.0 c.search_to-trail.ensures c.heaviest-from.ensures
+    (omega (arith, c.if-load.false, c.load.ensures, c.load-2.ensures)) _ c.carry_from.ensures.meaning c.carry_from.ensures.tally

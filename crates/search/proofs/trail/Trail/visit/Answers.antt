@@ -5,7 +5,7 @@ use Rattle.table.specs.Held.{tally_of}
 use Rattle.search.specs.Visits.{load_in}
 use Rattle.search.proofs.VisitSteps.{Turn, Reached, reached_none, laden_more, turn_below, turn_room, turn_more, turn_stopped, visit_all, visit_busy}
 use Rattle.search.proofs.trail.Trail.visit.Goals as goal
-use Rattle.search.proofs.trail.Trail.visit.Goals.{In-Some, After-reach, at·After-reach, at·reach-requires, at·returns-then-load-eq0, at·loop-mill-again}
+use Rattle.search.proofs.trail.Trail.visit.Goals.{In-Some, After-reach, at-After-reach, at-reach-requires, at-returns-then-load-eq0, at-loop-mill-preserved}
 
 -- the mills that are not reached yet come one by one
 turn : (c : In-Some) → Turn c.args.mills c.args.self.now c.loop-mill.yielded c.in-Some.mill
@@ -14,13 +14,13 @@ turn c = record {
   here = c.loop-mill.mill-iterator;
   rest = c.next.new.self;
   differs = c.difference.ensures;
-  split = members_split c.difference.result c.loop-mill.yielded c.loop-mill.mill-iterator c.iter-mill-items.ensures c.into-iter-mill-iterator.ensures.into-iter-gives c.loop-mill.yielded-by;
+  split = members_split c.difference.result c.loop-mill.yielded c.loop-mill.mill-iterator c.iter-mill-items.ensures c.into_iter-mill-iterator.ensures.into_iter_gives c.loop-mill.yielded_by;
   next = c.in-Some.ensures.steps;
 }
 
 reached : (c : After-reach) → Reached (record { ticket = c.args.ticket; by = c.args.by }) c.args.self.now c.reach.new.self (c.loop-mill.yielded ++ (c.in-Some.mill ∷ []))
 reached c =
-    turn_more c.args.mills c.args.self.now (turn (at·After-reach c).In-Some) c.requires _ c.loop-mill.self c.loop-mill.invariant.0 c.reach.new.self
+    turn_more c.args.mills c.args.self.now (turn (at-After-reach c).In-Some) c.requires _ c.loop-mill.self c.loop-mill.invariant.0 c.reach.new.self
     c.reach.ensures.queue c.reach.ensures.len c.reach.ensures.reached c.reach.ensures.link c.reach.ensures.others
 
 pub loop-mill-init : goal.loop-mill-init
@@ -28,7 +28,7 @@ loop-mill-init c = (reached_none _ _ c.requires, λ m i. absurd i)
 
 pub reach-requires : goal.reach-requires
 reach-requires c =
-    let T = turn (at·reach-requires c).In-Some in
+    let T = turn (at-reach-requires c).In-Some in
     record { mill = turn_below _ _ T; room = turn_room _ _ T c.requires _ _ c.loop-mill.invariant.0 }
 
 pub returns-then-load-eq0 : goal.returns-then-load-eq0
@@ -36,19 +36,19 @@ returns-then-load-eq0 c = record {
   busy = λ e. absurd (true≢false e);
   all = λ e. absurd (true≢false e);
   stopped = λ e.
-      turn_stopped _ _ (turn (at·returns-then-load-eq0 c).In-Some) (load_in (tally_of c.args.table.now)) _ _
-      (reached (at·returns-then-load-eq0 c).After-reach) c.loop-mill.invariant.1 (sym c.load.ensures ∙ c.if-load-eq0.true);
+      turn_stopped _ _ (turn (at-returns-then-load-eq0 c).In-Some) (load_in (tally_of c.args.table.now)) _ _
+      (reached (at-returns-then-load-eq0 c).After-reach) c.loop-mill.invariant.1 (sym c.load.ensures ∙ c.if-load-eq0.true);
 }
 
 pub loop-mill-preserved : goal.loop-mill-preserved
 loop-mill-preserved c = (
-  reached (at·loop-mill-again c).After-reach,
+  reached (at-loop-mill-preserved c).After-reach,
   laden_more (load_in (tally_of c.args.table.now)) c.loop-mill.yielded c.in-Some.mill c.loop-mill.invariant.1 (omega (arith, c.load.ensures, c.if-load-eq0.false)),
 )
 
 pub returns : goal.returns
 returns c =
-    let split = members_split c.difference.result c.loop-mill.yielded c.loop-mill.mill-iterator c.iter-mill-items.ensures c.into-iter-mill-iterator.ensures.into-iter-gives c.loop-mill.yielded-by in
+    let split = members_split c.difference.result c.loop-mill.yielded c.loop-mill.mill-iterator c.iter-mill-items.ensures c.into_iter-mill-iterator.ensures.into_iter_gives c.loop-mill.yielded_by in
     let end = c.in-None.ensures.steps.0 in
     record {
       busy = λ e. visit_busy c.args.mills c.args.self.now _ c.difference.ensures _ _ split end (load_in (tally_of c.args.table.now)) c.loop-mill.invariant.1;

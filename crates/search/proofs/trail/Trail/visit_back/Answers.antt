@@ -13,7 +13,7 @@ reach-requires c =
 pub returns-then-contains : goal.returns-then-contains
 returns-then-contains c mill place V =
     let seat = sym c.in-Some.ensures in
-    visit_new V (place_of c.in-Some.seat) seat (sym c.if-not-contains.ensures) (sym (c.mills-for.ensures _) ∙ sym c.if-contains.ensures)
+    visit_new V (place_of c.in-Some.seat) seat (sym c.if-not-contains.ensures) (sym (c.mills_for.ensures _) ∙ sym c.if-contains.ensures)
     (stands_few c.args.table.now _ _ seat) (semi c.args.table.now)
     (record { queue = c.reach.ensures.queue; len = c.reach.ensures.len; reached = c.reach.ensures.reached; links = c.reach.ensures.links })
 
@@ -21,9 +21,9 @@ pub returns-else-not-contains : goal.returns-else-not-contains
 returns-else-not-contains c mill place V =
     let seat = sym c.in-Some.ensures in
     elim c.else-not-contains.branch [
-      | else-not-contains-via-then-not-contains+else-contains w ↦ visit_unable V (place_of c.in-Some.seat) seat (sym (w.mills-for.ensures _) ∙ sym w.if-contains.ensures)
+      | else-not-contains-via-then-not-contains+else-contains w ↦ visit_unable V (place_of c.in-Some.seat) seat (sym (w.mills_for.ensures _) ∙ sym w.if-contains.ensures)
       | else-not-contains-via-else-not-contains w ↦ visit_known V (place_of c.in-Some.seat) seat (sym w.if-not-contains.ensures)
     ]
 
-pub returns-in-default : goal.returns-in-default
-returns-in-default c mill place V = visit_none V (sym c.in-default.ensures)
+pub returns-in_default : goal.returns-in_default
+returns-in_default c mill place V = visit_none V (sym c.in_default.ensures)
