@@ -1,6 +1,6 @@
 -- A shop of three mills, six calls in it, and what they answer.
 use Rattle.std.specs.Prelude.{◌≡◌, ℕ, ◌≤◌, false, cond, ◌||◌, List, [], ◌∷◌, map, length, take, Ok, Err, Result, ◌==◌, slice_index_or}
-use Rattle.std.specs.List.{AllByRecursion as All}
+use Rattle.std.specs.List.{AllByRecursion}
 use Rattle.vocabulary.specs.declared.numbers.Mill.{Mill}
 use Rattle.vocabulary.specs.declared.numbers.Ticket.{Ticket}
 use Rattle.vocabulary.specs.declared.refusal.Refusal.{Refusal}
@@ -51,4 +51,4 @@ pub record Worked (turns : List RunTurn) : Type 0 where
 
 -- so it is in every run of these calls, where each move list has room for three
 abbrev pub WorkedRun : Type 0
-WorkedRun = (turns : List RunTurn) (board : Tally) → HasRun worked turns board → map (λ turn. turn.call) turns ≡ worked_calls → All (λ turn. 3 ≤ length turn.list) turns → Worked turns
+WorkedRun = (turns : List RunTurn) (board : Tally) → HasRun worked turns board → map (λ turn. turn.call) turns ≡ worked_calls → AllByRecursion (λ turn. 3 ≤ length turn.list) turns → Worked turns

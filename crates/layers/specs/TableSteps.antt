@@ -2,7 +2,7 @@
 use Rattle.std.specs.Prelude.{◌≡◌, ℕ, zero, suc, ◌+◌, ◌<◌, ◌≤◌, Bool, true, false, cond, List, [], ◌∷◌, ◌++◌, length, take, Some, None, Ok, Err, nat_lt, slice_index_or, slice_set, refl}
 use Rattle.std.proofs.Common.{sym, ap, ◌∙◌, arith}
 use Rattle.std.specs.Option.{option_map}
-use Rattle.std.specs.List.{AllByRecursion as All}
+use Rattle.std.specs.List.{AllByRecursion}
 use Rattle.std.proofs.lemmas.List.{length-take-le, take_more_set, take_all}
 use Rattle.std.proofs.lemmas.Bool.{lt-ltb, cond-true, cond-false}
 use Rattle.vocabulary.specs.declared.refusal.Refusal.TheVariants.{TableFull}
@@ -14,7 +14,7 @@ use Rattle.layers.specs.declared.pairs.Pair.{Pair}
 module _ (test : Pair → Bool) where
   -- no pair before place i passes
   abbrev pub NoneTo : List Pair → ℕ → Type 0
-  NoneTo pairs i = All (λ x. test x ≡ false) (take i pairs)
+  NoneTo pairs i = AllByRecursion (λ x. test x ≡ false) (take i pairs)
 
   pub place_here : (pairs : List Pair) (i : ℕ) (d : Pair) → i < length pairs → NoneTo pairs i → test (slice_index_or pairs i d) ≡ true → place_in test pairs ≡ Some i
   place_here [] i d l none e = absurd (omega arith)
@@ -22,7 +22,7 @@ module _ (test : Pair → Bool) where
   place_here (x ∷ xs) (suc i) d l none e =
       cond-false (test x) (Some 0) (option_map suc (place_in test xs)) none.0 ∙ ap (option_map suc) (place_here xs i d (omega arith) none.1 e)
 
-  none_place : (pairs : List Pair) → All (λ x. test x ≡ false) pairs → place_in test pairs ≡ None
+  none_place : (pairs : List Pair) → AllByRecursion (λ x. test x ≡ false) pairs → place_in test pairs ≡ None
   none_place [] none = refl
   none_place (x ∷ xs) none = cond-false (test x) (Some 0) (option_map suc (place_in test xs)) none.0 ∙ ap (option_map suc) (none_place xs none.1)
 

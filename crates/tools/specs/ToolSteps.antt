@@ -2,7 +2,7 @@
 use Rattle.std.specs.Prelude.{◌≡◌, ℕ, ◌+◌, ◌<◌, ◌≤◌, Bool, true, false, cond, ◌&&◌, ltb, List, [], ◌∷◌, ◌++◌, length, take, drop, Some, None, Decides, nat_le, nat_lt, slice_index_or, refl}
 use Rattle.std.proofs.Common.{sym, ap, ap₂, subst, ◌∙◌, ⊎_elim, zero-le, arith}
 use Rattle.std.proofs.Math.Path.{fun_ext}
-use Rattle.std.specs.List.{list_all, AllByRecursion as All}
+use Rattle.std.specs.List.{list_all, AllByRecursion}
 use Rattle.std.proofs.ByRecursion.{All-more, All-get_or, Decides-by_and}
 use Rattle.std.proofs.lemmas.List.{length-map, map_push, get_or-map, take_more, take_all, at_drop_more, at_drop_all}
 use Rattle.std.proofs.lemmas.Bool.{ltb-true, leb-true, lt-ltb, le-ltb, le-leb, lt-leb, cases_lt, false≢true, and_parts, and_from, and_left, and_right, cond-true, cond-false}
@@ -26,7 +26,7 @@ passes_all f g r past d =
     (Decides-like (list_all g (numbers f 64)) each_number (λ h. all_numbers (λ k. g k ≡ true) f 64 (λ k l. h k))
     (Decides-by_and g (λ k. g k ≡ true) (list_all g) (λ k. ((λ e. e), (λ e. e))) refl (λ _ _. refl) (numbers f 64)))
   where
-    each_number : All (λ k. g k ≡ true) (numbers f 64) → (k : ℕ) → f k ≡ true → g k ≡ true
+    each_number : AllByRecursion (λ k. g k ≡ true) (numbers f 64) → (k : ℕ) → f k ≡ true → g k ≡ true
     each_number h k e = ⊎_elim (λ l. numbers_all (λ n. g n ≡ true) f 64 h k l e) (λ le. absurd (false≢true (sym (past k le) ∙ e))) (cases_lt k 64)
 
 -- ---- a mill table, checked as far as row i
@@ -46,11 +46,11 @@ no_fault rows i so_far all = sym so_far ∙ at_drop_all first_fault rows i all
 
 -- ---- a mill table, stored as far as row i
 
-passes : (rows : List MillRow) → Decides (list_all few_tools rows) (All (λ row. few_tools row ≡ true) rows)
+passes : (rows : List MillRow) → Decides (list_all few_tools rows) (AllByRecursion (λ row. few_tools row ≡ true) rows)
 passes rows = Decides-by_and few_tools (λ row. few_tools row ≡ true) (list_all few_tools) (λ row. ((λ e. e), (λ e. e))) refl (λ _ _. refl) rows
 
 abbrev pub StoredTo : List MillRow → ℕ → List ToolMill → Type 0
-StoredTo rows i mills = (rows_of mills ≡ take i rows) × All (λ row. few_tools row ≡ true) (take i rows)
+StoredTo rows i mills = (rows_of mills ≡ take i rows) × AllByRecursion (λ row. few_tools row ≡ true) (take i rows)
 
 module _ (rows : List MillRow) (i : ℕ) (mills : List ToolMill) (so_far : StoredTo rows i mills) where
   pub stored_more : (d : MillRow) (mill : ToolMill) (after : List ToolMill) → i < length rows → magazine_fault (slice_index_or rows i d) ≡ None → row_of mill ≡ slice_index_or rows i d → after ≡ mills ++ mill ∷ [] → StoredTo rows (i + 1) after
@@ -63,7 +63,7 @@ module _ (rows : List MillRow) (i : ℕ) (mills : List ToolMill) (so_far : Store
   pub stored_all : length rows ≤ 64 → length rows ≤ i → rows_of mills ≡ cond (sound_mills rows) rows []
   stored_all few all =
       let whole : take i rows ≡ rows = take_all i rows all in
-      let each : list_all few_tools rows ≡ true = (passes rows).1 (subst (All (λ row. few_tools row ≡ true)) whole so_far.1) in
+      let each : list_all few_tools rows ≡ true = (passes rows).1 (subst (AllByRecursion (λ row. few_tools row ≡ true)) whole so_far.1) in
       let sound : sound_mills rows ≡ true = and_from (list_all few_tools rows) (nat_le (length rows) 64) each (le-leb (length rows) 64 few) in
       so_far.0 ∙ whole ∙ sym (cond-true (sound_mills rows) rows [] sound)
 
