@@ -3,6 +3,4 @@ pub mod Held
 pub mod Strikes
 pub mod Aliases
 pub mod Piles
-pub mod AliasSteps
-pub mod TableSteps
-pub mod StrikeSteps
+pub mod Laws

@@ -2,7 +2,7 @@
 ghost use Rattle.std.specs.Prelude.{◌≡◌, [], Err, MatchResult};
 ghost use Rattle.layers.specs.Held.{held};
 ghost use Rattle.layers.specs.Aliases.{alias_of, after_alias, Alias, cutting_as};
-ghost use Rattle.layers.specs.AliasSteps.{cutting_as-lawful};
+ghost use Rattle.layers.specs.Laws.{cutting_as-lawful};
 
 use crate::pairs::find::find;
 use crate::pairs::{Key, Pair, Pairs};

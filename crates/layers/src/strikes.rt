@@ -2,7 +2,7 @@
 ghost use Rattle.std.specs.Prelude.{◌≡◌, [], Err, MatchResult};
 ghost use Rattle.layers.specs.Held.{held};
 ghost use Rattle.layers.specs.Strikes.{struck, after_strike, Strike, without};
-ghost use Rattle.layers.specs.StrikeSteps.{without_lawful};
+ghost use Rattle.layers.specs.Laws.{without_lawful};
 
 use crate::pairs::find::find;
 use crate::pairs::{Key, Pair, Pairs};

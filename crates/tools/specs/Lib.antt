@@ -1,4 +1,4 @@
 pub mod Tools
 pub mod Stored
 pub mod ToolSources
-pub mod ToolSteps
+pub mod Laws

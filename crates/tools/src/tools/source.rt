@@ -3,9 +3,7 @@ ghost use Rattle.std.specs.Prelude.{◌≡◌, IfOk};
 ghost use Rattle.tools.specs.Tools.{table_meaning, tool_meaning};
 ghost use Rattle.tools.specs.Stored.{rows_of, row_of};
 ghost use Rattle.tools.specs.ToolSources.{source_meaning};
-ghost use Rattle.std.proofs.Common.{arith};
-ghost use Rattle.std.proofs.lemmas.List.{length-map};
-ghost use Rattle.tools.specs.ToolSteps.{table_lawful};
+ghost use Rattle.tools.specs.Laws.{source_lawful};
 
 use super::{MillRow, ProgramRow, ToolMill, ToolSource, checked_mills};
 use capability::Source;
@@ -62,7 +60,7 @@ fn cuts(mills: &[ToolMill], programs: &[ProgramRow], program: Program, mill: Mil
 impl Source for ToolSource {
     ghost meaning = { source_meaning };
 
-    ghost lawful = { λ source. table_lawful (rows_of source.mills.items) source.programs.items (omega (arith, source.few, source.mills.ok.0, length-map source.mills.items row_of)) };
+    ghost lawful = { source_lawful };
 
     fn mills(&self) -> u8 {
         self.mill_count()

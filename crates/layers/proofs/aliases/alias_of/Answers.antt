@@ -1,7 +1,7 @@
 use Rattle.std.proofs.Common.{get_or, sym, ap, ◌∙◌}
 use Rattle.layers.specs.Held.{held}
 use Rattle.layers.specs.Tables.{pair}
-use Rattle.layers.specs.AliasSteps.{looked_up_none, looked_up_at}
+use Rattle.layers.proofs.AliasSteps.{looked_up_none, looked_up_at}
 use Rattle.layers.proofs.aliases.alias_of.Goals as goal
 
 pub returns-in-Some : goal.returns-in-Some

@@ -1,6 +1,6 @@
 use Rattle.std.proofs.lemmas.Result.{MatchResult-weaker}
 use Rattle.layers.specs.Held.{held}
-use Rattle.layers.specs.AliasSteps.{looked_up_none, looked_up_at, alias_again, alias_more, alias_refused}
+use Rattle.layers.proofs.AliasSteps.{looked_up_none, looked_up_at, alias_again, alias_more, alias_refused}
 use Rattle.layers.proofs.aliases.put_alias.Goals as goal
 
 pub returns-in-Some : goal.returns-in-Some

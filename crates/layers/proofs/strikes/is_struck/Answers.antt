@@ -1,7 +1,7 @@
 use Rattle.std.proofs.Common.{is_some, ap, ◌∙◌}
 use Rattle.layers.specs.Held.{held}
 use Rattle.layers.specs.Tables.{is_pair, place_in}
-use Rattle.layers.specs.StrikeSteps.{found_struck}
+use Rattle.layers.proofs.StrikeSteps.{found_struck}
 use Rattle.layers.proofs.strikes.is_struck.Goals as goal
 
 pub returns : goal.returns

@@ -1,6 +1,6 @@
 use Rattle.std.proofs.lemmas.Result.{MatchResult-weaker}
 use Rattle.layers.specs.Held.{held}
-use Rattle.layers.specs.StrikeSteps.{strike_more, strike_refused}
+use Rattle.layers.proofs.StrikeSteps.{strike_more, strike_refused}
 use Rattle.layers.proofs.strikes.put_strike.Goals as goal
 
 pub returns : goal.returns

@@ -1,5 +1,5 @@
 use Rattle.std.proofs.lemmas.Result.{err_from_is_err_and}
-use Rattle.tools.specs.ToolSteps.{no_fault_here, fault_here, no_fault}
+use Rattle.tools.proofs.ToolSteps.{no_fault_here, fault_here, no_fault}
 use Rattle.tools.proofs.tools.check_each.Goals as goal
 
 pub loop-row-preserved : goal.loop-row-preserved

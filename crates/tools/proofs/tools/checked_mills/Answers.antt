@@ -1,5 +1,5 @@
 use Rattle.std.proofs.Common.{vec_items}
-use Rattle.tools.specs.ToolSteps.{stored_more, stored_all, stored_faulty}
+use Rattle.tools.proofs.ToolSteps.{stored_more, stored_all, stored_faulty}
 use Rattle.tools.proofs.tools.checked_mills.Goals as goal
 
 pub returns-in-Err : goal.returns-in-Err

@@ -1,5 +1,5 @@
 use Rattle.std.proofs.Common.{vec_items}
-use Rattle.tools.specs.ToolSteps.{StoredTo}
+use Rattle.tools.proofs.ToolSteps.{StoredTo}
 use Rattle.tools.proofs.tools.checked_mills.Given as goal
 
 abbrev pub invariant-loop-row : goal.invariant-loop-row

@@ -1,5 +1,5 @@
 use Rattle.std.proofs.Common.{arith}
-use Rattle.layers.specs.TableSteps.{held_more}
+use Rattle.layers.proofs.TableSteps.{held_more}
 use Rattle.layers.proofs.pairs.Pairs.add.Goals as goal
 
 pub returns : goal.returns

@@ -1,7 +1,7 @@
 use Rattle.std.proofs.Common.{◌≡◌, false, sym}
 use Rattle.std.proofs.ByRecursion.{All-more}
 use Rattle.layers.specs.Tables.{names}
-use Rattle.layers.specs.TableSteps.{place_here, no_place}
+use Rattle.layers.proofs.TableSteps.{place_here, no_place}
 use Rattle.layers.proofs.pairs.find.find.Goals as goal
 
 pub loop-place-preserved : goal.loop-place-preserved

@@ -1,5 +1,5 @@
 use Rattle.layers.specs.Tables.{names}
-use Rattle.layers.specs.TableSteps.{NoneTo}
+use Rattle.layers.proofs.TableSteps.{NoneTo}
 use Rattle.layers.proofs.pairs.find.find.Given as goal
 
 abbrev pub invariant-loop-place : goal.invariant-loop-place

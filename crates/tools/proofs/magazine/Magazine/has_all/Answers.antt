@@ -1,7 +1,7 @@
 use Rattle.std.proofs.Common.{◌^◌, ◌<◌, rules}
 use Rattle.sets.specs.Sets.{has}
 use Rattle.sets.proofs.Holds.{holds_past}
-use Rattle.tools.specs.ToolSteps.{passes_all}
+use Rattle.tools.proofs.ToolSteps.{passes_all}
 use Rattle.tools.proofs.magazine.Magazine.has_all.Goals as goal
 
 pub returns : goal.returns

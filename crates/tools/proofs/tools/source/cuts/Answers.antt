@@ -1,6 +1,6 @@
 use Rattle.std.proofs.Common.{◌<◌, get_or, ap, ◌∙◌, arith, rules}
 use Rattle.tools.specs.Tools.{no_program}
-use Rattle.tools.specs.ToolSteps.{no_mill_there, both_there}
+use Rattle.tools.proofs.ToolSteps.{no_mill_there, both_there}
 use Rattle.tools.proofs.tools.source.cuts.Goals as goal
 
 pub returns-in_default-get : goal.returns-in_default-get

@@ -1,5 +1,5 @@
 use Rattle.std.proofs.Common.{vec_items, arith}
-use Rattle.tools.specs.ToolSteps.{stored_few, stored_means}
+use Rattle.tools.proofs.ToolSteps.{stored_few, stored_means}
 use Rattle.tools.proofs.tools.source.source_over.Goals as goal
 
 pub invariant_of-result : goal.invariant_of-result

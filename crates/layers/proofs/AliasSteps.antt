@@ -1,16 +1,15 @@
 -- Aliases: the entry of a program looked up, one entry more or another in its place, and the law of what is renamed.
-use Rattle.std.specs.Prelude.{◌≡◌, ℕ, suc, Bool, true, false, cond, ◌||◌, List, [], ◌∷◌, ◌++◌, Some, None, Ok, Err, Option, MatchOption, ◌==◌, nat_lt, slice_index_or, slice_set, refl}
+use Rattle.std.specs.Prelude.{◌≡◌, ℕ, suc, Bool, true, false, cond, ◌||◌, List, [], ◌∷◌, ◌++◌, Some, None, Ok, Err, Option, MatchOption, ◌==◌, slice_index_or, slice_set, refl}
 use Rattle.std.proofs.Common.{sym, ap, ◌∙◌, arith}
 use Rattle.std.specs.Option.{option_map}
 use Rattle.std.proofs.lemmas.Option.{MatchOption-at_some, MatchOption-at_none}
-use Rattle.std.proofs.lemmas.Bool.{false≢true, ltb-true, and_parts, or_parts, cond-true, cond-false}
+use Rattle.std.proofs.lemmas.Bool.{false≢true, or_parts, cond-true, cond-false}
 use Rattle.std.proofs.lemmas.Bool.Decides.{nat_tests}
 use Rattle.vocabulary.specs.declared.refusal.Refusal.{Refusal}
-use Rattle.capability.specs.Meaning.{Meaning, Lawful}
 use Rattle.layers.specs.Tables.{pair, of_program, place_in, added}
-use Rattle.layers.specs.Aliases.{aliased, alias_of, renamed, after_alias, Alias, cutting_as}
+use Rattle.layers.specs.Aliases.{aliased, alias_of, renamed, after_alias, Alias}
 use Rattle.layers.specs.declared.pairs.Pair.{Pair}
-use Rattle.layers.specs.TableSteps.{added_ok}
+use Rattle.layers.proofs.TableSteps.{added_ok}
 
 -- ---- the entry of a program, looked up
 
@@ -80,12 +79,3 @@ module _ (p q : ℕ) (before : List Pair) where
 
   pub alias_refused : (e : Refusal) → Missing p before → added (pair p q) before ≡ Err e → after_alias p q before ≡ Err e
   alias_refused e out full = cond-false (aliased before p) (Ok (renamed p q before)) (added (pair p q) before) out.0 ∙ full
-
--- ---- the law
-
-pub cutting_as-lawful : (entries : List Pair) (below : Meaning) → Lawful below → Lawful (cutting_as entries below)
-cutting_as-lawful entries below law = record {
-  few = law.few;
-  program = λ p m able. ltb-true p 256 (and_parts (nat_lt p 256) (below.able (alias_of entries p) m) able).0;
-  mill = λ p m able. law.mill (alias_of entries p) m (and_parts (nat_lt p 256) (below.able (alias_of entries p) m) able).1;
-}

@@ -1,14 +1,13 @@
 -- Strikes: a struck pair looked up, one struck more, and the law of what is left.
-use Rattle.std.specs.Prelude.{◌≡◌, ℕ, suc, Bool, true, false, cond, not, ◌&&◌, ◌||◌, List, [], ◌∷◌, ◌++◌, is_some, Some, None, Ok, Err, Option, ◌==◌, refl}
+use Rattle.std.specs.Prelude.{◌≡◌, ℕ, suc, Bool, true, false, cond, ◌&&◌, ◌||◌, List, [], ◌∷◌, ◌++◌, is_some, Some, None, Ok, Err, Option, ◌==◌, refl}
 use Rattle.std.proofs.Common.{sym, ap, ◌∙◌}
 use Rattle.std.specs.Option.{option_map}
-use Rattle.std.proofs.lemmas.Bool.{and_parts, cond-false}
+use Rattle.std.proofs.lemmas.Bool.{cond-false}
 use Rattle.vocabulary.specs.declared.refusal.Refusal.{Refusal}
-use Rattle.capability.specs.Meaning.{Meaning, Lawful}
 use Rattle.layers.specs.Tables.{pair, is_pair, place_in, added}
-use Rattle.layers.specs.Strikes.{struck, after_strike, Strike, without}
+use Rattle.layers.specs.Strikes.{struck, after_strike, Strike}
 use Rattle.layers.specs.declared.pairs.Pair.{Pair}
-use Rattle.layers.specs.TableSteps.{added_ok}
+use Rattle.layers.proofs.TableSteps.{added_ok}
 
 -- ---- a pair looked up
 
@@ -49,12 +48,3 @@ module _ (p m : ℕ) (before : List Pair) where
 
   pub strike_refused : (e : Refusal) → false ≡ struck before p m → added (pair p m) before ≡ Err e → after_strike p m before ≡ Err e
   strike_refused e out full = cond-false (struck before p m) (Ok before) (added (pair p m) before) (sym out) ∙ full
-
--- ---- the law
-
-pub without_lawful : (pairs : List Pair) (below : Meaning) → Lawful below → Lawful (without pairs below)
-without_lawful pairs below law = record {
-  few = law.few;
-  program = λ p m able. law.program p m (and_parts (below.able p m) (not (struck pairs p m)) able).0;
-  mill = λ p m able. law.mill p m (and_parts (below.able p m) (not (struck pairs p m)) able).0;
-}

@@ -5,12 +5,12 @@ use Rattle.std.proofs.Math.Path.{fun_ext}
 use Rattle.std.specs.List.{list_all, AllByRecursion}
 use Rattle.std.proofs.ByRecursion.{All-more, All-get_or, Decides-by_and}
 use Rattle.std.proofs.lemmas.List.{length-map, map_push, get_or-map, take_more, take_all, at_drop_more, at_drop_all}
-use Rattle.std.proofs.lemmas.Bool.{ltb-true, leb-true, lt-ltb, le-ltb, le-leb, lt-leb, cases_lt, false≢true, and_parts, and_from, and_left, and_right, cond-true, cond-false}
+use Rattle.std.proofs.lemmas.Bool.{leb-true, lt-ltb, le-ltb, le-leb, lt-leb, cases_lt, false≢true, and_parts, and_from, and_left, and_right, cond-true, cond-false}
 use Rattle.std.proofs.lemmas.Bool.Decides.{same_from_decides, Decides-like, nat_tests}
 use Rattle.vocabulary.specs.declared.refusal.Refusal.{Refusal}
 use Rattle.sets.specs.Sets.{numbers}
 use Rattle.sets.proofs.Rising.{numbers_all, all_numbers}
-use Rattle.capability.specs.Meaning.{Lawful, nothing}
+use Rattle.capability.specs.Meaning.{nothing}
 use Rattle.tools.specs.Tools.{few_tools, magazine_fault, first_fault, can_cut, no_mill, no_program, sound_mills, table_meaning, tool_meaning}
 use Rattle.tools.specs.Stored.{row_of, rows_of}
 use Rattle.tools.specs.declared.tools.MillRow.{MillRow}
@@ -95,20 +95,6 @@ module _ (mills : List ToolMill) (programs : List ProgramRow) (p m : ℕ) where
       and_true_left x y e = ap (λ t. t && y) e
 
 -- ---- the tables as a source
-
--- two tables of at most 64 mills mean something lawful
-pub table_lawful : (mills : List MillRow) (programs : List ProgramRow) → length mills ≤ 64 → Lawful (table_meaning mills programs)
-table_lawful mills programs few = record {
-  few = few;
-  program = λ p m able. ltb-true p 256 (row_of_program p m able).0;
-  mill = λ p m able. ltb-true m (length mills) (and_parts (nat_lt p 256 && nat_lt p (length programs)) (nat_lt m (length mills)) (tables p m able)).1;
-}
-  where
-    tables : (p m : ℕ) → (table_meaning mills programs).able p m ≡ true → (nat_lt p 256 && nat_lt p (length programs) && nat_lt m (length mills)) ≡ true
-    tables p m able = (and_parts (nat_lt p 256 && nat_lt p (length programs) && nat_lt m (length mills)) (can_cut (slice_index_or mills m no_mill) (slice_index_or programs p no_program)) able).0
-
-    row_of_program : (p m : ℕ) → (table_meaning mills programs).able p m ≡ true → (nat_lt p 256 ≡ true) × (nat_lt p (length programs) ≡ true)
-    row_of_program p m able = and_parts (nat_lt p 256) (nat_lt p (length programs)) (and_parts (nat_lt p 256 && nat_lt p (length programs)) (nat_lt m (length mills)) (tables p m able)).0
 
 -- no mills, no pairs
 no_mills : (programs : List ProgramRow) → table_meaning [] programs ≡ nothing
