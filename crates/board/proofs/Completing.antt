@@ -1,11 +1,9 @@
 -- What finishing, withdrawing and returning do to a table, from what their parts do.
-use Rattle.std.proofs.Common.{◌≡◌, ℕ, ◌+◌, ◌<◌, ◌≤◌, Bool, true, false, Some, None, sym, refl, ap, ◌∙◌, subst, subst₂, inl, inr, ⊎_elim, arith}
-use Rattle.std.specs.Option.{option_map}
+use Rattle.std.proofs.Common.{◌≡◌, ◌+◌, ◌<◌, ◌≤◌, Bool, true, false, Some, None, sym, ap, ◌∙◌, subst₂, inl, inr, ⊎_elim, arith}
 use Rattle.std.proofs.lemmas.Bool.{cases_Bool}
 use Rattle.sets.specs.Sets.{numbers}
 use Rattle.vocabulary.specs.declared.numbers.Mill.{Mill}
 use Rattle.vocabulary.specs.declared.numbers.Ticket.{Ticket}
-use Rattle.capability.specs.Meaning.{Meaning}
 use Rattle.semimatching.specs.Placements.{stands_on, load}
 use Rattle.table.specs.Held.{meant, tally_of}
 use Rattle.table.specs.Tally.{Place, Tally, shop_in, placement, seated, serving}

@@ -1,5 +1,5 @@
 -- A call has one outcome.
-use Rattle.std.proofs.Common.{◌≡◌, ℕ, ◌<◌, ◌≤◌, ◌⊎◌, List, [], ◌∷◌, ◌++◌, length, drop, Some, None, Ok, Err, Option, sym, refl, ap, ◌∙◌, subst, ap₂, subst₂, ⊎_elim, arith}
+use Rattle.std.proofs.Common.{◌≡◌, ℕ, ◌<◌, ◌≤◌, ◌⊎◌, List, ◌∷◌, ◌++◌, length, drop, Some, None, Ok, Err, Option, sym, refl, ap, ◌∙◌, subst, ap₂, subst₂, ⊎_elim, arith}
 use Rattle.std.proofs.lemmas.Bool.{cases_lt}
 use Rattle.vocabulary.specs.Told.{told}
 use Rattle.vocabulary.specs.declared.numbers.Mill.{Mill}
@@ -7,7 +7,7 @@ use Rattle.vocabulary.specs.declared.refusal.Refusal.{Refusal}
 use Rattle.vocabulary.specs.declared.refusal.Refusal.TheVariants.{NoSuchTicket, Standing, NotStanding, NoAbleMill, NoSuchMill, SameService, Stranded, ShortList}
 use Rattle.capability.specs.Meaning.{Meaning}
 use Rattle.semimatching.proofs.OneChoice.{one_placing, one_shifting}
-use Rattle.table.specs.Tally.{Place, Tally, shop_in, placement, seated, standing}
+use Rattle.table.specs.Tally.{Tally, shop_in, placement, seated, standing}
 use Rattle.search.specs.Rules.{shop_for, carried_out, PlacedByRule, ShiftedByRule, NothingToShift}
 use Rattle.board.specs.Causes.{Strands, Cause, Refused}
 use Rattle.board.specs.Notes.{mill_told}

@@ -7,7 +7,7 @@ use Rattle.capability.specs.Meaning.{Meaning}
 use Rattle.semimatching.specs.Sums.{count_to}
 use Rattle.semimatching.proofs.Carrying.{differ}
 use Rattle.table.specs.Held.{meant, tally_of}
-use Rattle.table.specs.Tally.{Place, Tally, mill_of, placement, standing}
+use Rattle.table.specs.Tally.{Tally, mill_of, placement, standing}
 use Rattle.table.specs.declared.table.Table.{Table}
 use Rattle.table.proofs.TableLaws.{service_few, seat_past, stands_few, placed_few, semi}
 use Rattle.search.specs.Rules.{EvenIn}
@@ -17,7 +17,7 @@ use Rattle.board.specs.Notes.{mill_told}
 use Rattle.board.specs.Records.{records_of, count_in}
 use Rattle.board.specs.Rules.{Finished}
 use Rattle.board.specs.Rulings.{Ruling}
-use Rattle.board.specs.Outcomes.{Stands, AllStand, Fulfilled}
+use Rattle.board.specs.Outcomes.{AllStand, Fulfilled}
 use Rattle.board.specs.Turns.{Few}
 use Rattle.board.specs.declared.call.Answer.{Answer}
 use Rattle.board.specs.declared.call.Call.{Call}

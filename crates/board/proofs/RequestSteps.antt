@@ -1,11 +1,11 @@
 -- Requests are performed in turn.
-use Rattle.std.proofs.Common.{◌≡◌, ℕ, ◌+◌, ◌<◌, ◌≤◌, List, [], ◌∷◌, ◌++◌, map, length, get_or, take, set, vec_items, sym, refl, ap, ◌∙◌, subst, subst₂, arith}
+use Rattle.std.proofs.Common.{◌≡◌, ℕ, ◌+◌, ◌<◌, ◌≤◌, List, [], ◌∷◌, ◌++◌, length, get_or, take, set, sym, refl, ap, ◌∙◌, subst, subst₂, arith}
 use Rattle.std.proofs.lemmas.List.{take_more, take_more_set, take_all, get_or-set_other, length-take, map-append}
 use Rattle.table.specs.Held.{meant, tally_of}
 use Rattle.table.specs.Tally.{opening}
 use Rattle.table.specs.declared.table.Table.{Table}
-use Rattle.board.specs.Requests.{calls_of, turn_of, turns_of, Asked, RanRequests}
-use Rattle.board.specs.Histories.{RunTurn, HasRun}
+use Rattle.board.specs.Requests.{turn_of, turns_of, Asked, RanRequests}
+use Rattle.board.specs.Histories.{HasRun}
 use Rattle.board.specs.declared.request.Request.{Request}
 use Rattle.board.proofs.Running.{ran_none, ran_more}
 

@@ -1,5 +1,5 @@
 -- Chains to a mill are carried out while an improving one exists.
-use Rattle.std.proofs.Common.{◌≡◌, ℕ, ◌+◌, ◌-◌, ◌<◌, ◌≤◌, Bool, true, false, sym, ap, ◌∙◌, subst, subst₂, arith}
+use Rattle.std.proofs.Common.{◌≡◌, ℕ, ◌+◌, ◌-◌, ◌<◌, Bool, true, false, sym, ap, ◌∙◌, subst, arith}
 use Rattle.capability.specs.Meaning.{Meaning}
 use Rattle.semimatching.specs.Placements.{load}
 use Rattle.semimatching.proofs.Carrying.{carried_last}

@@ -1,5 +1,5 @@
 -- The tally worked out from calls, answers and records, where an answer tells a mill or none.
-use Rattle.std.specs.Prelude.{ℕ, true, false, List, take, Some, None, Ok, Err, Option, Result}
+use Rattle.std.specs.Prelude.{true, false, List, take, Some, None, Ok, Err, Option, Result}
 use Rattle.std.specs.Option.{option_map}
 use Rattle.vocabulary.specs.declared.numbers.Mill.{Mill}
 use Rattle.vocabulary.specs.declared.refusal.Refusal.{Refusal}

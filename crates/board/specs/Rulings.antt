@@ -1,5 +1,5 @@
 -- What each call does to a tally, with the mill that it tells.
-use Rattle.std.specs.Prelude.{◌≡◌, Some, None, Option}
+use Rattle.std.specs.Prelude.{Some, None, Option}
 use Rattle.vocabulary.specs.declared.numbers.Mill.{Mill}
 use Rattle.capability.specs.Meaning.{Meaning}
 use Rattle.table.specs.Tally.{Tally}

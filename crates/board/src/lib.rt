@@ -1,4 +1,6 @@
 //! A board of tickets on mills: the calls that change it, the questions that it answers, and runs of calls.
+#![tactic(auto)]
+
 mod board;
 mod call;
 mod calls;

@@ -10,9 +10,9 @@ returns-then-seat-mill c =
     let ticket = c.args.ticket.0 in
     let place = place_of c.in-Some.seat in
     let at = sym c.in-Some.ensures in
-    let able = c.mills-for-others.result in
+    let able = c.mills_for-others.result in
     let others = c.remove.new.self in
     record {
-      yes = λ e. strands_since table mill ticket place at able others c.mills-for-others.ensures c.remove.ensures c.if-seat-mill.true (sym c.is-empty.ensures ∙ e);
-      not = λ e. free_since table mill ticket place at able others c.mills-for-others.ensures c.remove.ensures (sym c.is-empty.ensures ∙ e);
+      yes = λ e. strands_since table mill ticket place at able others c.mills_for-others.ensures c.remove.ensures c.if-seat-mill.true (sym c.is_empty.ensures ∙ e);
+      not = λ e. free_since table mill ticket place at able others c.mills_for-others.ensures c.remove.ensures (sym c.is_empty.ensures ∙ e);
     }

@@ -8,14 +8,14 @@ returns-then-ticket-ge-TICKETS c =
     let table = c.args.table.now in
     done_range (meant table) (tally_of table) c.args.room c.args.ticket c.if-ticket-ge-TICKETS.true
 
-pub returns-then-is-none : goal.returns-then-is-none
-returns-then-is-none c =
+pub returns-then-is_none : goal.returns-then-is_none
+returns-then-is_none c =
     let table = c.args.table.now in
     let seat = seat_known table c.args.ticket.0 c.seat.result c.seat.ensures in
-    done_away (meant table) (tally_of table) c.args.room c.args.ticket c.if-ticket-ge-TICKETS.false (seat ∙ c.if-is-none.ensures)
+    done_away (meant table) (tally_of table) c.args.room c.args.ticket c.if-ticket-ge-TICKETS.false (seat ∙ c.if-is_none.ensures)
 
-pub returns-else-is-none : goal.returns-else-is-none
-returns-else-is-none c =
+pub returns-else-is_none : goal.returns-else-is_none
+returns-else-is_none c =
     let table = c.args.table.now in
     let seat = seat_known table c.args.ticket.0 c.seat.result c.seat.ensures in
-    done_list (meant table) (tally_of table) c.args.room c.args.ticket c.if-ticket-ge-TICKETS.false (seat ∙ c.if-is-none.ensures) c.of-list.result c.of-list.ensures
+    done_list (meant table) (tally_of table) c.args.room c.args.ticket c.if-ticket-ge-TICKETS.false (seat ∙ c.if-is_none.ensures) c.of_list.result c.of_list.ensures

@@ -18,4 +18,4 @@ pub returns-else-contains : goal.returns-else-contains
 returns-else-contains c =
     let table = c.args.table.now in
     let serves = sym (c.service.ensures c.args.mill.0) ∙ sym c.if-contains.ensures in
-    return_list (meant table) (tally_of table) c.args.room c.args.mill (omega arith) serves c.of-list.result c.of-list.ensures
+    return_list (meant table) (tally_of table) c.args.room c.args.mill (omega arith) serves c.of_list.result c.of_list.ensures

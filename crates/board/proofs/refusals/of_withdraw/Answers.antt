@@ -21,8 +21,8 @@ returns-in-Some c =
     let lowest = c.in-Some.ensures in
     withdraw_stranded (meant table) (tally_of table) c.args.room c.args.mill (omega arith) serves c.in-Some.ticket lowest.0 lowest.1
 
-pub returns-in-default : goal.returns-in-default
-returns-in-default c =
+pub returns-in_default : goal.returns-in_default
+returns-in_default c =
     let table = c.args.table.now in
     let serves = sym (c.service.ensures c.args.mill.0) ∙ sym c.if-not-contains.ensures in
-    withdraw_list (meant table) (tally_of table) c.args.room c.args.mill (omega arith) serves c.in-default.ensures c.of-list.result c.of-list.ensures
+    withdraw_list (meant table) (tally_of table) c.args.room c.args.mill (omega arith) serves c.in_default.ensures c.of_list.result c.of_list.ensures

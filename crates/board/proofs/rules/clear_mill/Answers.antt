@@ -2,18 +2,18 @@ use Rattle.std.proofs.Common.{sym, ap, ◌∙◌, arith}
 use Rattle.table.specs.Held.{meant, tally_of}
 use Rattle.board.proofs.Clearing.{clearing_start, clearing_off, clearing_stays, clearing_all}
 use Rattle.board.proofs.rules.clear_mill.Goals as goal
-use Rattle.board.proofs.rules.clear_mill.Goals.{then-stands-on, else-stands-on}
+use Rattle.board.proofs.rules.clear_mill.Goals.{then-stands_on, else-stands_on}
 
 pub loop-number-init : goal.loop-number-init
 loop-number-init c = clearing_start c.args.table.now c.args.mill.0
 
 pub loop-number-preserved : goal.loop-number-preserved
 loop-number-preserved c =
-    elim c.if-stands-on.branch [
-      | then-stands-on w ↦
-          clearing_off _ _ _ _ c.loop-number.invariant _ (sym w.if-stands-on.ensures) (ap meant w.table-is ∙ w.take.ensures.meaning)
+    elim c.if-stands_on.branch [
+      | then-stands_on w ↦
+          clearing_off _ _ _ _ c.loop-number.invariant _ (sym w.if-stands_on.ensures) (ap meant w.table-is ∙ w.take.ensures.meaning)
           (ap tally_of w.table-is ∙ w.take.ensures.tally)
-      | else-stands-on w ↦ clearing_stays _ _ _ _ c.loop-number.invariant _ (sym w.if-stands-on.ensures) w.table-is
+      | else-stands_on w ↦ clearing_stays _ _ _ _ c.loop-number.invariant _ (sym w.if-stands_on.ensures) w.table-is
     ]
 
 pub returns : goal.returns

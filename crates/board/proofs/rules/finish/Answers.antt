@@ -1,4 +1,4 @@
-use Rattle.std.proofs.Common.{◌≡◌, ℕ, is_some, sym, ap, ◌∙◌, arith}
+use Rattle.std.proofs.Common.{is_some, sym, ap, ◌∙◌}
 use Rattle.std.proofs.lemmas.Bool.{false≢true}
 use Rattle.table.specs.Held.{meant, tally_of}
 use Rattle.table.specs.Seats.{place_of}
@@ -15,6 +15,6 @@ returns-in-Some c =
     c.take.new.self c.take.ensures.meaning c.take.ensures.tally c.shift.result c.shift.new.table c.shift.ensures
 
 -- an accepted ticket stands
-pub returns-in-default : goal.returns-in-default
-returns-in-default c =
-    absurd (false≢true (ap is_some c.in-default.ensures.value ∙ done_stands (meant c.args.table.now) (tally_of c.args.table.now) c.args.ticket c.requires))
+pub returns-in_default : goal.returns-in_default
+returns-in_default c =
+    absurd (false≢true (ap is_some c.in_default.ensures.value ∙ done_stands (meant c.args.table.now) (tally_of c.args.table.now) c.args.ticket c.requires))

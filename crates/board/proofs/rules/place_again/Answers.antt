@@ -5,7 +5,7 @@ use Rattle.table.specs.Seats.{place_of}
 use Rattle.board.proofs.TallyLaws.{mill_at}
 use Rattle.board.proofs.Replacing.{replacing_start, replacing_away, replacing_some, replacing_more, replacing_skip, replacing_all}
 use Rattle.board.proofs.rules.place_again.Goals as goal
-use Rattle.board.proofs.rules.place_again.Goals.{in-Some+then-seat-mill, in-Some+else-seat-mill, in-default}
+use Rattle.board.proofs.rules.place_again.Goals.{in-Some+then-seat-mill, in-Some+else-seat-mill, in_default}
 
 pub loop-number-init : goal.loop-number-init
 loop-number-init c = replacing_start c.args.before.now c.args.table.now c.args.mill.0 c.requires.off
@@ -26,9 +26,9 @@ loop-number-preserved c =
       | in-Some+else-seat-mill w ↦
           replacing_skip _ _ _ _ _ c.loop-number.invariant _
           (ap (λ seat. stands_on (mill_at seat) c.args.mill.0) (sym w.in-Some.ensures) ∙ ne_eqb _ _ w.if-seat-mill.false) w.table-is
-      | in-default w ↦
+      | in_default w ↦
           replacing_skip _ _ _ _ _ c.loop-number.invariant _
-          (ap (λ seat. stands_on (mill_at seat) c.args.mill.0) (sym w.in-default.ensures)) w.table-is
+          (ap (λ seat. stands_on (mill_at seat) c.args.mill.0) (sym w.in_default.ensures)) w.table-is
     ]
 
 pub returns : goal.returns

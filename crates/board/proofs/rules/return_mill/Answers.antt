@@ -3,13 +3,13 @@ use Rattle.board.proofs.Accepting.{return_below}
 use Rattle.board.proofs.Completing.{returned_few, returned_completed}
 use Rattle.board.proofs.rules.return_mill.Goals as goal
 
-pub open-mill-requires : goal.open-mill-requires
-open-mill-requires c = record { below = return_below (meant c.args.table.now) (tally_of c.args.table.now) c.args.mill c.requires }
+pub open_mill-requires : goal.open_mill-requires
+open_mill-requires c = record { below = return_below (meant c.args.table.now) (tally_of c.args.table.now) c.args.mill c.requires }
 
 pub settle-requires : goal.settle-requires
 settle-requires c = returned_few c.args.table.now c.args.mill c.requires
 
 pub returns : goal.returns
 returns c =
-    returned_completed c.args.table.now c.args.mill c.requires c.open-mill.new.self c.open-mill.ensures.meaning c.open-mill.ensures.tally
+    returned_completed c.args.table.now c.args.mill c.requires c.open_mill.new.self c.open_mill.ensures.meaning c.open_mill.ensures.tally
     c.settle.new.table c.settle.ensures.meaning c.settle.ensures.settled c.settle.ensures.even

@@ -13,19 +13,19 @@ use Rattle.board.proofs.rules.withdraw_mill.Goals as goal
 gone : (mill : ℕ) (before cleared off : Tally) → cleared ≡ Rules.cleared before mill → off ≡ serving cleared mill false → off ≡ serving (Rules.cleared before mill) mill false
 gone mill before cleared off clears closes = closes ∙ ap (λ tally. serving tally mill false) clears
 
-pub close-mill-requires : goal.close-mill-requires
-close-mill-requires c =
+pub close_mill-requires : goal.close_mill-requires
+close_mill-requires c =
     let mill = c.args.mill.0 in
-    let cleared = c.clear-mill.ensures.tally in
-    ap (λ tally. load (shop_in (meant c.clear-mill.new.table) tally) (placement tally) mill) cleared
-    ∙ cleared_empty (meant c.clear-mill.new.table) (tally_of c.args.table.now) mill
+    let cleared = c.clear_mill.ensures.tally in
+    ap (λ tally. load (shop_in (meant c.clear_mill.new.table) tally) (placement tally) mill) cleared
+    ∙ cleared_empty (meant c.clear_mill.new.table) (tally_of c.args.table.now) mill
 
-pub place-again-requires : goal.place-again-requires
-place-again-requires c =
+pub place_again-requires : goal.place_again-requires
+place_again-requires c =
     let before = c.args.table.now in
-    let off = gone c.args.mill.0 (tally_of c.args.table.now) _ _ c.clear-mill.ensures.tally c.close-mill.ensures.tally in
+    let off = gone c.args.mill.0 (tally_of c.args.table.now) _ _ c.clear_mill.ensures.tally c.close_mill.ensures.tally in
     record {
-      meaning = c.close-mill.ensures.meaning ∙ c.clear-mill.ensures.meaning;
+      meaning = c.close_mill.ensures.meaning ∙ c.clear_mill.ensures.meaning;
       off = off;
       free = λ t place stood on.
           let other = withdraw_free (meant before) (tally_of before) (service_few before) c.args.mill c.requires t place stood on in
@@ -34,6 +34,6 @@ place-again-requires c =
 
 pub returns : goal.returns
 returns c =
-    withdrawn_completed c.args.table.now c.args.mill c.close-mill.new.self (c.close-mill.ensures.meaning ∙ c.clear-mill.ensures.meaning)
-    (gone c.args.mill.0 (tally_of c.args.table.now) _ _ c.clear-mill.ensures.tally c.close-mill.ensures.tally)
-    c.place-again.new.table c.place-again.ensures.meaning c.place-again.ensures.again c.place-again.ensures.even
+    withdrawn_completed c.args.table.now c.args.mill c.close_mill.new.self (c.close_mill.ensures.meaning ∙ c.clear_mill.ensures.meaning)
+    (gone c.args.mill.0 (tally_of c.args.table.now) _ _ c.clear_mill.ensures.tally c.close_mill.ensures.tally)
+    c.place_again.new.table c.place_again.ensures.meaning c.place_again.ensures.again c.place_again.ensures.even

@@ -1,4 +1,4 @@
-use Rattle.std.proofs.Common.{sym, refl, ◌∙◌, subst₂, arith}
+use Rattle.std.proofs.Common.{sym, refl, subst₂, arith}
 use Rattle.std.proofs.lemmas.List.{with_items_is}
 use Rattle.table.specs.Held.{meant, tally_of}
 use Rattle.board.specs.Outcomes.{Outcome}
@@ -14,6 +14,6 @@ returns c =
         call = refl;
         outcome =
             subst₂ (Outcome (meant before) c.args.request.now.call (tally_of before) (tally_of c.perform-request.new.table) c.perform-request.result)
-            c.deref-mut.ensures.value (sym (with_items_is c.args.request.now.moves c.perform-request.new.moves (omega arith))) c.perform-request.ensures.outcome;
+            c.deref_mut.ensures.value (sym (with_items_is c.args.request.now.moves c.perform-request.new.moves (omega arith))) c.perform-request.ensures.outcome;
       };
     }

@@ -6,8 +6,8 @@ loop-request-init c = running_start c.args.table.now c.args.requests.now c.requi
 
 pub loop-request-preserved : goal.loop-request-preserved
 loop-request-preserved c =
-    running_more _ _ _ _ _ c.loop-request.invariant c.loop-request.auto.requests c.loop-request-test.true c.request-item.result c.answer-request.new.request c.answer-request.new.table
-    c.answer-request.ensures.meaning c.answer-request.ensures.turn
+    running_more _ _ _ _ _ c.loop-request.invariant c.loop-request.auto.requests c.loop-request-test.true c.request-item.result c.answer_request.new.request c.answer_request.new.table
+    c.answer_request.ensures.meaning c.answer_request.ensures.turn
 
 pub returns : goal.returns
 returns c = record {
