@@ -1,4 +1,6 @@
 //! Runs boards through cases, and tells what came of each call.
+#![tactic(auto)]
+
 mod attempt;
 mod full_boards;
 mod list;

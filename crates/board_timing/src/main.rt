@@ -1,5 +1,7 @@
 //! Takes the time of the calls of a board on which nearly all tickets stand.
 //! What the calls did goes to standard output, which is compared; the times go to standard error, which is not.
+#![tactic(auto)]
+
 mod bench;
 mod chain;
 mod connected;

@@ -1,5 +1,7 @@
 //! Runs a shift on the shop's sheet in the file cell.hex, and tells line by line what was asked, what was answered, which tickets
 //! moved, and the loads at the end.
+#![tactic(auto)]
+
 mod plan;
 mod tell;
 

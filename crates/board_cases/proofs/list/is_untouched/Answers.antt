@@ -8,4 +8,4 @@ pub loop-entry-preserved : goal.loop-entry-preserved
 loop-entry-preserved c =
     let i = c.loop-entry.entry-index in
     let xs = c.args.entries.now in
-    AllWithin-more (λ entry. entry ≡ marker) xs 0 i c.loop-entry.invariant (λ d. get_or_default xs i d _ c.loop-entry-test.true ∙ c.is-marker.ensures (search rules))
+    AllWithin-more (λ entry. entry ≡ marker) xs 0 i c.loop-entry.invariant (λ d. get_or_default xs i d _ c.loop-entry-test.true ∙ c.is_marker.ensures (search rules))
