@@ -1,4 +1,6 @@
 //! Tries every placement of small boards against what boards answer, and tells how much was compared.
+#![tactic(auto)]
+
 #[cfg(test)]
 mod tests;
 

@@ -1,6 +1,8 @@
 //! An independent witness of a board: drives small boards by drawn calls, and compares after each call what the board answers with a
 //! tally that is worked out here, and with the best of all placements and chains. It shares nothing with the board but the questions
 //! that it asks.
+#![tactic(auto)]
+
 mod chains;
 pub mod compare;
 pub mod counts;
