@@ -1,5 +1,7 @@
 //! Worked cases of the shop, each proved from the definitions that the other crates' promises are written in.
 //! They are all in `specs/` and `proofs/`; the function here has them for its contract, so that they are asked for.
+#![tactic(auto)]
+
 ghost use Rattle.cases.specs.Blanks.{EqualBlanks};
 ghost use Rattle.cases.specs.Loads.{NoneImproves, Costs};
 ghost use Rattle.cases.specs.Texts.{ShortSheets, EndLine};
