@@ -1,5 +1,5 @@
 -- A reply tells no more moves than there are tickets.
-use Rattle.std.proofs.Common.{◌≡◌, ℕ, ◌≤◌, List, Some, None, Ok, Err, Option, Result, sym, ap, subst, arith}
+use Rattle.std.proofs.Common.{ℕ, ◌≤◌, List, Some, None, Ok, Err, Option, Result, sym, subst, arith}
 use Rattle.vocabulary.specs.declared.numbers.Ticket.{Ticket}
 use Rattle.vocabulary.specs.declared.refusal.Refusal.{Refusal}
 use Rattle.capability.specs.Meaning.{Meaning}

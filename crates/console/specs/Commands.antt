@@ -20,7 +20,6 @@ use Rattle.wire.specs.declared.command.BoardCommand.TheVariants.{Perform, Where,
 use Rattle.wire.specs.declared.command.SetupCommand.{SetupCommand}
 use Rattle.wire.specs.declared.command.SetupCommand.TheVariants.{Strike, Alias, Board}
 use Rattle.wire.specs.declared.reply.Reply.{Reply}
-use Rattle.wire.specs.declared.reply.Reply.TheVariants as Reply
 use Rattle.console.specs.States.{Opened, State, pile_meaning}
 
 -- ---- commands to a board

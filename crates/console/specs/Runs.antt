@@ -1,5 +1,5 @@
 -- A console from its beginning through any list of lines.
-use Rattle.std.specs.Prelude.{◌≡◌, ℕ, Bool, true, false, cond, ltb, List, [], ◌∷◌, ◌++◌, map, length, is_some, Ok, Err, vec_items, Result, MatchOption}
+use Rattle.std.specs.Prelude.{◌≡◌, ℕ, Bool, true, false, cond, List, [], ◌∷◌, ◌++◌, map, is_some, Ok, Err, Result, MatchOption}
 use Rattle.vocabulary.specs.declared.refusal.Refusal.{Refusal}
 use Rattle.capability.specs.Meaning.{Meaning}
 use Rattle.layers.specs.Aliases.{after_alias}

@@ -1,5 +1,5 @@
 -- What a console holds.
-use Rattle.std.specs.Prelude.{Bool, List, [], is_some, Some, None, Option}
+use Rattle.std.specs.Prelude.{List, [], Some, None, Option}
 use Rattle.capability.specs.Meaning.{Meaning}
 use Rattle.layers.specs.Aliases.{cutting_as}
 use Rattle.layers.specs.Held.{held}

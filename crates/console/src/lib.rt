@@ -1,4 +1,6 @@
 //! A console: one command line in, its answer lines out.
+#![tactic(auto)]
+
 mod answer;
 mod console;
 mod exchange;

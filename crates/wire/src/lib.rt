@@ -1,4 +1,6 @@
 //! The board over a wire: commands read from lines of digits, and answers written as such lines.
+#![tactic(auto)]
+
 mod command;
 mod reader;
 mod reply;

@@ -11,9 +11,9 @@ returns g c = record {
   exchanged = record {
     line = refl;
     done =
-        answered_same (g.S.Source.meaning (below c.args.console)) (state_of c.args.console) (vec_items c.args.exchange.now.line) c.as-slice.result.now
-        (vec_items c.args.exchange.now.area) c.deref-mut.result.now (state_of c.answer-console.result.0) c.answer-console.result.1 _ c.answer-console.new.area
-        c.as-slice.ensures.value c.deref-mut.ensures.value
+        answered_same (g.S.Source.meaning (below c.args.console)) (state_of c.args.console) (vec_items c.args.exchange.now.line) c.as_slice.result.now
+        (vec_items c.args.exchange.now.area) c.deref_mut.result.now (state_of c.answer-console.result.0) c.answer-console.result.1 _ c.answer-console.new.area
+        c.as_slice.ensures.value c.deref_mut.ensures.value
         (sym (with_items_is c.args.exchange.now.area c.answer-console.new.area (omega arith)))
         c.answer-console.ensures.answered;
   };

@@ -18,23 +18,23 @@ returns-in-20-eq1 c = let long = length_bytes c.args.frame.payload.now in grind 
 pub returns-in-21-eq2 : goal.returns-in-21-eq2
 returns-in-21-eq2 c = let long = length_bytes c.args.frame.payload.now in grind (arith, nat_tests)
 
-pub returns-in-default : goal.returns-in-default
-returns-in-default c = let long = length_bytes c.args.frame.payload.now in grind (arith, nat_tests)
+pub returns-in_default : goal.returns-in_default
+returns-in_default c = let long = length_bytes c.args.frame.payload.now in grind (arith, nat_tests)
 
-pub returns-in-default·2 : goal.returns-in-default·2
-returns-in-default·2 c = let long = length_bytes c.args.frame.payload.now in grind (arith, nat_tests)
+pub returns-in_default-2 : goal.returns-in_default-2
+returns-in_default-2 c = let long = length_bytes c.args.frame.payload.now in grind (arith, nat_tests)
 
-pub returns-in-default·3 : goal.returns-in-default·3
-returns-in-default·3 c = let long = length_bytes c.args.frame.payload.now in grind (arith, nat_tests)
+pub returns-in_default-3 : goal.returns-in_default-3
+returns-in_default-3 c = let long = length_bytes c.args.frame.payload.now in grind (arith, nat_tests)
 
-pub returns-in-default·4 : goal.returns-in-default·4
-returns-in-default·4 c = let long = length_bytes c.args.frame.payload.now in grind (arith, nat_tests)
+pub returns-in_default-4 : goal.returns-in_default-4
+returns-in_default-4 c = let long = length_bytes c.args.frame.payload.now in grind (arith, nat_tests)
 
-pub returns-in-default·5 : goal.returns-in-default·5
-returns-in-default·5 c = let long = length_bytes c.args.frame.payload.now in grind (arith, nat_tests)
+pub returns-in_default-5 : goal.returns-in_default-5
+returns-in_default-5 c = let long = length_bytes c.args.frame.payload.now in grind (arith, nat_tests)
 
-pub returns-in-default·6 : goal.returns-in-default·6
-returns-in-default·6 c = let long = length_bytes c.args.frame.payload.now in grind (arith, nat_tests)
+pub returns-in_default-6 : goal.returns-in_default-6
+returns-in_default-6 c = let long = length_bytes c.args.frame.payload.now in grind (arith, nat_tests)
 
-pub returns-in-default·7 : goal.returns-in-default·7
-returns-in-default·7 c = let long = length_bytes c.args.frame.payload.now in grind (arith, nat_tests)
+pub returns-in_default-7 : goal.returns-in_default-7
+returns-in_default-7 c = let long = length_bytes c.args.frame.payload.now in grind (arith, nat_tests)

@@ -7,18 +7,18 @@ pub returns-in-Stands : goal.returns-in-Stands
 returns-in-Stands c =
     let is = ap reply_frame (sym c.in-Stands.is) in
     record {
-      long = front_long _ _ is c.put-frame.result c.put-frame.ensures.behind;
-      text = front_text _ _ is c.args.area.now c.put-frame.new.area c.put-frame.ensures.text;
+      long = front_long _ _ is c.put_frame.result c.put_frame.ensures.behind;
+      text = front_text _ _ is c.args.area.now c.put_frame.new.area c.put_frame.ensures.text;
     }
 
 pub returns-in-Reported : goal.returns-in-Reported
 returns-in-Reported c = record {
-  long = head_long c.args.reply _ c.in-Reported.is c.put-report.result c.put-report.ensures.long;
-  text = head_text c.args.reply _ c.in-Reported.is c.args.area.now c.put-report.new.area c.put-report.ensures.text;
+  long = head_long c.args.reply _ c.in-Reported.is c.put_report.result c.put_report.ensures.long;
+  text = head_text c.args.reply _ c.in-Reported.is c.args.area.now c.put_report.new.area c.put_report.ensures.text;
 }
 
 pub returns-in-Refused : goal.returns-in-Refused
 returns-in-Refused c = record {
-  long = head_long c.args.reply _ c.in-Refused.is c.put-refusal.result c.put-refusal.ensures.long;
-  text = head_text c.args.reply _ c.in-Refused.is c.args.area.now c.put-refusal.new.area c.put-refusal.ensures.text;
+  long = head_long c.args.reply _ c.in-Refused.is c.put_refusal.result c.put_refusal.ensures.long;
+  text = head_text c.args.reply _ c.in-Refused.is c.args.area.now c.put_refusal.new.area c.put_refusal.ensures.text;
 }

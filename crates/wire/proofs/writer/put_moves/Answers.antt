@@ -4,11 +4,11 @@ use Rattle.wire.proofs.writer.put_moves.Goals as goal
 pub loop-moved-init : goal.loop-moved-init
 loop-moved-init c = none_told c.args.area.now c.args.at c.args.moves.now c.requires
 
-pub put-move-end-requires : goal.put-move-end-requires
-put-move-end-requires c = move_room c.args.area.now c.args.at c.args.moves.now c.requires c.loop-moved.moved-index c.loop-moved.end c.loop-moved.area c.loop-moved.invariant c.loop-moved-test.true c.loop-moved.auto.area
+pub put_move-end-requires : goal.put_move-end-requires
+put_move-end-requires c = move_room c.args.area.now c.args.at c.args.moves.now c.requires c.loop-moved.moved-index c.loop-moved.end c.loop-moved.area c.loop-moved.invariant c.loop-moved-test.true c.loop-moved.auto.area
 
 pub loop-moved-preserved : goal.loop-moved-preserved
-loop-moved-preserved c = more_told c.args.area.now c.args.at c.args.moves.now c.requires c.loop-moved.moved-index c.loop-moved.end c.loop-moved.area c.loop-moved.invariant _ c.put-move-end.result c.put-move-end.new.area c.loop-moved-test.true c.put-move-end.ensures.behind c.put-move-end.ensures.text
+loop-moved-preserved c = more_told c.args.area.now c.args.at c.args.moves.now c.requires c.loop-moved.moved-index c.loop-moved.end c.loop-moved.area c.loop-moved.invariant _ c.put_move-end.result c.put_move-end.new.area c.loop-moved-test.true c.put_move-end.ensures.behind c.put_move-end.ensures.text
 
 pub returns : goal.returns
 returns c = record {
