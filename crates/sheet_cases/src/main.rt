@@ -1,5 +1,7 @@
 //! Runs the texts of standard input through the sheet reader, the sheet source and the sheet writer, and tells what came of each.
 //! A text stands on one line of the input, with `|` for each of its line feeds.
+#![tactic(auto)]
+
 use capability::Source;
 use sheet::{SheetSource, check, write_sheet};
 use std::alloc::{AllocError, Global};

@@ -1,4 +1,6 @@
 //! The file with the shop's sheet.
+#![tactic(auto)]
+
 use std::fs::File;
 use std::io;
 use std::io::Read;

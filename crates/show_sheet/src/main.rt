@@ -1,4 +1,6 @@
 //! Reads the shop's sheet from the file cell.hex, checks it, and tells in words what it means.
+#![tactic(auto)]
+
 mod report;
 
 use sheet_file::sheet_text;
