@@ -1,5 +1,7 @@
 //! Takes the time of asking a sheet source of the longest sheet for all of its pairs.
 //! What was asked goes to standard output, which is compared; the time goes to standard error, which is not.
+#![tactic(auto)]
+
 use capability::Source;
 use sheet::SheetSource;
 use std::time::Instant;

@@ -1,4 +1,6 @@
 //! Shows the tool rule at work on a small shop: which mill can cut which program, and if not, why.
+#![tactic(auto)]
+
 mod example;
 mod report;
 

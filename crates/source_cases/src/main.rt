@@ -1,4 +1,6 @@
 //! Runs the tool source and the layers over it through cases, and tells what came of each.
+#![tactic(auto)]
+
 mod layer_cases;
 mod pile_cases;
 mod sheets;
