@@ -1,4 +1,6 @@
 //! Runs consoles through cases, and tells what each line was answered. A line feed is told as `|`.
+#![tactic(auto)]
+
 mod areas;
 mod crowds;
 mod faults;
