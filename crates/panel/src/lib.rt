@@ -1,4 +1,6 @@
 //! The panel's side of the cell: lines from standard input, answers to standard output, as soon as a line is there.
+#![tactic(auto)]
+
 mod line;
 mod panel;
 
