@@ -1,4 +1,6 @@
 //! The cell as it is, run by the gate where there is no sheet.
+#![tactic(auto)]
+
 use std::io;
 
 fn main(rt: HostRuntime) -> io::Result<()> {
