@@ -28,8 +28,8 @@ one_or_none test (suc n) =
     (one_or_none test n)
 
 -- a test that passes only below 64, and not nowhere, passes somewhere
-some-mill : (test : ℕ → Bool) → ((m : ℕ) → test m ≡ true → m < 64) → (((m : ℕ) → test m ≡ false) → ⊥) → (m : ℕ) × (test m ≡ true)
-some-mill test few some =
+some_mill : (test : ℕ → Bool) → ((m : ℕ) → test m ≡ true → m < 64) → (((m : ℕ) → test m ≡ false) → ⊥) → (m : ℕ) × (test m ≡ true)
+some_mill test few some =
     ⊎_elim
     (λ (found : (m : ℕ) × (test m ≡ true)). found)
     (λ (none : (m : ℕ) → m < 64 → test m ≡ false).
@@ -49,7 +49,7 @@ module _ (meaning : Meaning) (tally : Tally) (few : (m : ℕ) → tally.service 
     add_away = seat_away (tally.seat ticket.0) (λ here. may.1 (Standing ticket) (stands here))
 
     pub add_some : (m : ℕ) × (mill_for meaning tally.service program.0 m ≡ true)
-    add_some = some-mill (mill_for meaning tally.service program.0) (for_few program.0) (λ none. may.1 (NoAbleMill ticket) (unable none))
+    add_some = some_mill (mill_for meaning tally.service program.0) (for_few program.0) (λ none. may.1 (NoAbleMill ticket) (unable none))
 
   module _ (mill : Mill) (may : Acceptable meaning tally (Withdraw mill)) where
     -- no ticket is stranded, for there is no lowest such ticket

@@ -237,11 +237,11 @@ module _ (table : Table) where
   may = mill_for (meant table) (tally_of table).service
 
   module _ (p : ℕ) (set : NumberSet) (is : (m : ℕ) → has set m ≡ may p m) where
-    set-few : (m : ℕ) → has set m ≡ true → m < 64
-    set-few m here = service_few table m (and_parts ((meant table).able p m) ((tally_of table).service m) (sym (is m) ∙ here)).1
+    set_few : (m : ℕ) → has set m ≡ true → m < 64
+    set_few m here = service_few table m (and_parts ((meant table).able p m) ((tally_of table).service m) (sym (is m) ∙ here)).1
 
     pub unable_since : eqb (length (members set)) 0 ≡ true → (m : ℕ) → may p m ≡ false
-    unable_since empty m = sym (is m) ∙ none_in set set-few empty m
+    unable_since empty m = sym (is m) ∙ none_in set set_few empty m
 
     pub able_since : eqb (length (members set)) 0 ≡ false → ((m : ℕ) → may p m ≡ false) → ⊥
     able_since some none = one_in set some (λ m. is m ∙ none m)
@@ -260,7 +260,7 @@ module _ (table : Table) where
     }
       where
         few : (m : ℕ) → has others m ≡ true → m < 64
-        few m kept = set-few place.program set is m (and_parts (not (eqb m mill)) (has set m) (sym (fewer m) ∙ kept)).1
+        few m kept = set_few place.program set is m (and_parts (not (eqb m mill)) (has set m) (sym (fewer m) ∙ kept)).1
 
         none : (m : ℕ) → has set m ≡ true → (m ≡ mill → ⊥) → ⊥
         none m able other = both_ways (has others m) (none_in others few empty m) (fewer m ∙ and_from (not (eqb m mill)) (has set m) (not_from_false (eqb m mill) (ne_eqb m mill other)) able)

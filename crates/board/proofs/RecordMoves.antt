@@ -84,8 +84,8 @@ module _ (before after : Tally) where
       (cases_eq k n)
 
   module _ (past : (t : ℕ) → 1024 ≤ t → before.seat t ≡ None) where
-    pub moved-by_records : (t : ℕ) → (moved_by before (records_of before after)).seat t ≡ brought before after t
-    moved-by_records t =
+    pub moved_by_records : (t : ℕ) → (moved_by before (records_of before after)).seat t ≡ brought before after t
+    moved_by_records t =
         ap (λ rs. (moved_by before rs).seat t) (sym (records_all before after))
         ∙ ⊎_elim
         (λ (below : t < 1024). moved-below 1024 t below)
@@ -106,7 +106,7 @@ brought_same (Some from) (Some to) same = let program : to.program ≡ from.prog
 
 module _ (before after : Tally) (past : (t : ℕ) → 1024 ≤ t → before.seat t ≡ None) where
   moved_same : (t : ℕ) → program_in after t ≡ program_in before t → after.seat t ≡ (moved_by before (records_of before after)).seat t
-  moved_same t same = brought_same (before.seat t) (after.seat t) same ∙ sym (moved-by_records before after past t)
+  moved_same t same = brought_same (before.seat t) (after.seat t) same ∙ sym (moved_by_records before after past t)
 
   -- one ticket gets a place or none, and all others keep their programs
   pub agrees_seated : (ticket : ℕ) (place : Option Place) → after.seat ticket ≡ place

@@ -73,7 +73,7 @@ module _ (before start : Table) (mill n : ℕ) (table : Table) (so : Replacing b
           (placed_others (meant table) (tally_of table) n place.program (tally_of then) told rule t (λ e. omega arith)
           ∙ ap (option_map (λ p. p.program)) (so.later t (omega arith) on));
       service = placed_service (meant table) (tally_of table) n place.program (tally_of then) told rule ∙ so.service;
-      even = λ start-even. even (so.even start-even);
+      even = λ start_even. even (so.even start_even);
     })
 
   -- ---- it stood elsewhere or not at all

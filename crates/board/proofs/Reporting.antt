@@ -31,8 +31,8 @@ pub flow_total : (shop : Shop) (at : Placement) → flow_time shop at ≡ total 
 flow_total shop at = sum_same shop.mills _ _ (λ m low. sym (cost-position m (load shop at m)))
 
 -- a mill of at most 1,024 tickets
-pub cost-few : (n : ℕ) → n ≤ 1024 → mill_cost n ≤ 524800
-cost-few n few =
+pub cost_few : (n : ℕ) → n ≤ 1024 → mill_cost n ≤ 524800
+cost_few n few =
     let more : n + 1 ≤ 1025 = omega arith in
     div-le_of_le-mul 2 (mul-le-mul few more)
 
@@ -65,7 +65,7 @@ module _ (loads : ℕ → ℕ) (n highest busy flow : ℕ) (so : Reporting loads
     highest_is = top ∙ (λ i. max (so.highest_is i) (is i)) ∙ ap (λ k. greatest_to k loads) (sym (add-one n));
     busy_is = more ∙ (λ i. so.busy_is i + cond (ltb 0 (is i)) 1 0) ∙ ap (λ k. count_to k (λ m. ltb 0 (loads m))) (sym (add-one n));
     flow_is = adds ∙ (λ i. so.flow_is i + mill_cost (is i)) ∙ ap (λ k. sum_to k (λ m. mill_cost (loads m))) (sym (add-one n));
-    small = omega (arith, so.small, adds, ap mill_cost is, cost-few (loads n) few);
+    small = omega (arith, so.small, adds, ap mill_cost is, cost_few (loads n) few);
   }
 
 -- ---- all mills

@@ -44,21 +44,21 @@ moved_stands tally (r ∷ rs) t =
     go true (Some place) = refl
     go false seat = refl
 
-some-cond : (here : Bool) (place : Place) (seat : Option Place) → is_some (cond here (Some place) seat) ≡ (here || is_some seat)
-some-cond true place seat = refl
-some-cond false place seat = refl
+some_cond : (here : Bool) (place : Place) (seat : Option Place) → is_some (cond here (Some place) seat) ≡ (here || is_some seat)
+some_cond true place seat = refl
+some_cond false place seat = refl
 
-none-cond : (here : Bool) (seat : Option Place) → is_some (cond here None seat) ≡ (not here && is_some seat)
-none-cond true seat = refl
-none-cond false seat = refl
+none_cond : (here : Bool) (seat : Option Place) → is_some (cond here None seat) ≡ (not here && is_some seat)
+none_cond true seat = refl
+none_cond false seat = refl
 
 noted_stands : (meaning : Meaning) (call : Call) (before after : Tally) (answer : Result Answer Refusal) (list list' : List Move) → Outcome meaning call before after answer list list'
     → (t : ℕ) → is_some ((noted before call answer list').seat t) ≡ unfinished_by (is_some (before.seat t)) call answer t
 noted_stands meaning (Add ticket program) before after (Ok (Added mill count)) list list' done t =
-    some-cond (eqb t ticket.0) _ _ ∙ ap (λ b. eqb t ticket.0 || b) (moved_stands before (take count list') t)
+    some_cond (eqb t ticket.0) _ _ ∙ ap (λ b. eqb t ticket.0 || b) (moved_stands before (take count list') t)
 noted_stands meaning (Add ticket program) before after (Ok (Moved count)) list list' done t = absurd done.rule
 noted_stands meaning (Done ticket) before after (Ok answer) list list' done t =
-    none-cond (eqb t ticket.0) _ ∙ ap (λ b. not (eqb t ticket.0) && b) (moved_stands before (take (count_in answer) list') t)
+    none_cond (eqb t ticket.0) _ ∙ ap (λ b. not (eqb t ticket.0) && b) (moved_stands before (take (count_in answer) list') t)
 noted_stands meaning (Withdraw mill) before after (Ok answer) list list' done t = moved_stands before (take (count_in answer) list') t
 noted_stands meaning (Return mill) before after (Ok answer) list list' done t = moved_stands before (take (count_in answer) list') t
 noted_stands meaning (Add ticket program) before after (Err refusal) list list' back t = refl

@@ -6,7 +6,7 @@ use Rattle.semimatching.proofs.Carrying.{carried_last}
 use Rattle.table.specs.Held.{meant, tally_of}
 use Rattle.table.specs.Tally.{Tally, shop_in, placement}
 use Rattle.table.specs.declared.table.Table.{Table}
-use Rattle.table.proofs.TableLaws.{load-few}
+use Rattle.table.proofs.TableLaws.{load_few}
 use Rattle.search.specs.Rules.{ShiftedByRule, NothingToShift, EvenIn, Leaning}
 use Rattle.search.specs.Shifts.{Shift}
 use Rattle.board.specs.Rules.{Settled, none, more}
@@ -52,7 +52,7 @@ module _ (start : Table) (mill : ℕ) (table : Table) (so : Settling start mill 
     pub settling_falls : 1024 - load_on after mill < 1024 - load_on table mill
     settling_falls =
         let up = ap (λ meaning. load (shop_in meaning (tally_of after)) (placement (tally_of after)) mill) step.meaning ∙ shifted_load (step.shifted is) in
-        omega (arith, up, load-few after mill)
+        omega (arith, up, load_few after mill)
 
   -- no chain is left
 

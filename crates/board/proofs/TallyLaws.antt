@@ -17,12 +17,12 @@ Sound meaning tally = SemiMatching (shop_in meaning tally) (placement tally)
 abbrev pub mill_at : Option Place → Option ℕ
 mill_at o = option_map (λ place. place.mill) o
 
-mill-cond : (b : Bool) (o p : Option Place) → mill_at (cond b o p) ≡ cond b (mill_at o) (mill_at p)
-mill-cond true o p = refl
-mill-cond false o p = refl
+mill_cond : (b : Bool) (o p : Option Place) → mill_at (cond b o p) ≡ cond b (mill_at o) (mill_at p)
+mill_cond true o p = refl
+mill_cond false o p = refl
 
 pub placement-seated : (tally : Tally) (t : ℕ) (o : Option Place) → placement (seated tally t o) ≡ put (placement tally) t (mill_at o)
-placement-seated tally t o = fun_ext λ k. mill-cond (eqb k t) o (tally.seat k)
+placement-seated tally t o = fun_ext λ k. mill_cond (eqb k t) o (tally.seat k)
 
 -- a mill of a ticket is in service
 pub serves_for : (meaning : Meaning) (service : ℕ → Bool) (program m : ℕ) → mill_for meaning service program m ≡ true → service m ≡ true

@@ -17,5 +17,6 @@ pub trait Source {
     fn able(&self, program: Program, mill: Mill) -> bool
         ensures { result ≡ (meaning self.now).able program.0 mill.0 };
 
+    /// The law of a source: what it means is lawful.
     ghost lawful: { (source : Self) → Lawful (meaning source) };
 }

@@ -14,7 +14,7 @@ use Rattle.board.specs.Outcomes.{Outcome}
 use Rattle.board.proofs.CauseLaws.{withdraw_accepted}
 use Rattle.board.proofs.RecordLaws.{records_few}
 use Rattle.cases.specs.WorkedRun.{worked, mill}
-use Rattle.cases.proofs.WorkedShop.{away, none-standing}
+use Rattle.cases.proofs.WorkedShop.{away, none_standing}
 
 -- where there is nothing to place again
 again_none : {meaning : Meaning} {before tally after : Tally} {ts : List ℕ} → ts ≡ [] → PlacedAgain meaning before ts tally after → after ≡ tally
@@ -25,8 +25,8 @@ pub mill_goes : (after : Tally) (answer : Result Answer Refusal) (list list' : L
     → Outcome worked (Withdraw (mill 2)) (opening worked) after answer list list' → (answer ≡ Ok (Moved 0)) × (after ≡ away)
 mill_goes after (Ok (Added m count)) list list' room did = absurd did.rule
 mill_goes after (Ok (Moved count)) list list' room did = (
-  ap (λ n. Ok (Moved n)) (omega (arith, none-standing, records_few (opening worked) after, did.counted)),
+  ap (λ n. Ok (Moved n)) (omega (arith, none_standing, records_few (opening worked) after, did.counted)),
   again_none (numbers-none (λ t. stands_on (placement (opening worked) t) 2) 1024 (λ _ _. refl)) did.rule,
 )
 mill_goes after (Err r) list list' room back =
-    absurd (withdraw_accepted worked (opening worked) (length list) (mill 2) (omega arith) refl (λ k held. let on = held.on in absurd (grind arith)) (omega (arith, none-standing)) r back.refused.cause)
+    absurd (withdraw_accepted worked (opening worked) (length list) (mill 2) (omega arith) refl (λ k held. let on = held.on in absurd (grind arith)) (omega (arith, none_standing)) r back.refused.cause)

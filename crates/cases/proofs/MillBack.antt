@@ -42,8 +42,8 @@ no_program (Some place) is = absurd (grind arith)
 
 -- whatever is not 5, 6 or 7 does not stand
 no_others : (t : ℕ) → (t ≡ 5 → ⊥) → (t ≡ 6 → ⊥) → (t ≡ 7 → ⊥) → with7.seat t ≡ None
-no_others t not-5 not-6 not-7 =
-    cond-false (eqb t 7) _ _ (ne_eqb t 7 not-7) ∙ cond-false (eqb t 6) _ _ (ne_eqb t 6 not-6) ∙ cond-false (eqb t 5) _ _ (ne_eqb t 5 not-5)
+no_others t not_5 not_6 not_7 =
+    cond-false (eqb t 7) _ _ (ne_eqb t 7 not_7) ∙ cond-false (eqb t 6) _ _ (ne_eqb t 6 not_6) ∙ cond-false (eqb t 5) _ _ (ne_eqb t 5 not_5)
 
 -- ---- the placement with one ticket on each mill
 
@@ -152,10 +152,10 @@ module _ (after : Tally) (rule : Returned worked with7 2 after) (able : AllStand
   -- ---- and what is written
 
   no_record : (t : ℕ) → (t ≡ 5 → ⊥) → (t ≡ 6 → ⊥) → record_at with7 after t ≡ []
-  no_record t not-5 not-6 =
+  no_record t not_5 not_6 =
       ⊎_elim
       (λ (seven : t ≡ 7). ap (record_at with7 after) seven ∙ ap (λ o. record_of 7 (Some 0) (mill_at o)) on_7)
-      (λ (not-7 : t ≡ 7 → ⊥). ap (λ o. record_of t (mill_at o) (placement after t)) (no_others t not-5 not-6 not-7))
+      (λ (not_7 : t ≡ 7 → ⊥). ap (λ o. record_of t (mill_at o) (placement after t)) (no_others t not_5 not_6 not_7))
       (cases_eq t 7)
 
   record_5 : record_at with7 after 5 ≡ moving 5 1 2 ∷ []
@@ -175,11 +175,11 @@ module _ (after : Tally) (rule : Returned worked with7 2 after) (able : AllStand
   alone_on_0 : (t : ℕ) → placement after t ≡ Some 0 → t ≡ 7
   alone_on_0 t on =
       ⊎_elim (λ seven. seven)
-      (λ (not-7 : t ≡ 7 → ⊥).
+      (λ (not_7 : t ≡ 7 → ⊥).
       absurd (⊎_elim (λ (six : t ≡ 6). let is = ap (placement after) six in let at = ap mill_at on_6 in let z : ◌≡◌ {A = ℕ} 0 1 = cc in omega arith)
-      (λ (not-6 : t ≡ 6 → ⊥).
+      (λ (not_6 : t ≡ 6 → ⊥).
       ⊎_elim (λ (five : t ≡ 5). let is = ap (placement after) five in let at = ap mill_at on_5 in let z : ◌≡◌ {A = ℕ} 0 2 = cc in omega arith)
-      (λ (not-5 : t ≡ 5 → ⊥). let none = ap mill_at (gone t (no_others t not-5 not-6 not-7)) in let z : ◌≡◌ {A = ℕ} 0 1 = cc in omega arith)
+      (λ (not_5 : t ≡ 5 → ⊥). let none = ap mill_at (gone t (no_others t not_5 not_6 not_7)) in let z : ◌≡◌ {A = ℕ} 0 1 = cc in omega arith)
       (cases_eq t 5))
       (cases_eq t 6)))
       (cases_eq t 7)

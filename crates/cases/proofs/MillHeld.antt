@@ -32,6 +32,6 @@ module _ (tally : Tally) (serves : tally.service 0 ≡ true) (holds : tally.seat
   only_cause room _ (stranded {t = t} here lowest) few = ap (λ n. Stranded (ticket n)) (alone t.0 here.on)
   only_cause room _ (short less) few = absurd (omega arith)
 
-  pub mill-held : (after : Tally) (answer : Result Answer Refusal) (list list' : List Move) → Outcome worked (Withdraw (mill 0)) tally after answer list list' → answer ≡ Err (Stranded (ticket 7))
-  mill-held after (Ok answer) list list' did = absurd (did.accepted (Stranded (ticket 7)) (cause _))
-  mill-held after (Err r) list list' back = ap Err (only_cause _ r back.refused.cause (back.refused.first (Stranded (ticket 7)) (cause _)))
+  pub mill_held : (after : Tally) (answer : Result Answer Refusal) (list list' : List Move) → Outcome worked (Withdraw (mill 0)) tally after answer list list' → answer ≡ Err (Stranded (ticket 7))
+  mill_held after (Ok answer) list list' did = absurd (did.accepted (Stranded (ticket 7)) (cause _))
+  mill_held after (Err r) list list' back = ap Err (only_cause _ r back.refused.cause (back.refused.first (Stranded (ticket 7)) (cause _)))

@@ -21,7 +21,7 @@ use Rattle.board.proofs.RecordLaws.{length_records}
 use Rattle.board.proofs.TallyLaws.{serves_for, serves_of}
 use Rattle.cases.specs.WorkedRun.{worked, mill, ticket, adding}
 use Rattle.cases.proofs.Seats.{on_mill, chosen, seat_on}
-use Rattle.cases.proofs.WorkedShop.{able_1, able_2, able_3, away, with5, with6, with7, serves_away, few_5, few_6, none-standing, load_5, load_6}
+use Rattle.cases.proofs.WorkedShop.{able_1, able_2, able_3, away, with5, with6, with7, serves_away, few_5, few_6, none_standing, load_5, load_6}
 
 -- ---- a ticket that comes to a mill, with no chain behind it
 
@@ -67,7 +67,7 @@ direct_5 f steps w c =
 
 pub first_comes : (after : Tally) (answer : Result Answer Refusal) (list list' : List Move) → 3 ≤ length list
     → Outcome worked (adding 5 3) away after answer list list' → (answer ≡ Ok (Added (mill 1) 0)) × (after ≡ with5)
-first_comes after answer list list' room = comes away 5 3 1 (omega arith) refl refl direct_5 after answer list list' (omega (arith, none-standing))
+first_comes after answer list list' room = comes away 5 3 1 (omega arith) refl refl direct_5 after answer list list' (omega (arith, none_standing))
 
 -- ---- ticket 6, of program 2
 

@@ -15,7 +15,7 @@ use Rattle.cases.proofs.FirstTurn.{calls_of, Room, First, first_of, none_left}
 use Rattle.cases.proofs.MillAway.{mill_goes}
 use Rattle.cases.proofs.TicketsCome.{first_comes, second_comes, third_comes}
 use Rattle.cases.proofs.MillBack.{Back, mill_back}
-use Rattle.cases.proofs.MillHeld.{mill-held}
+use Rattle.cases.proofs.MillHeld.{mill_held}
 use Rattle.cases.proofs.WorkedShop.{away, with5, with6, with7}
 
 abbrev answers_of : List RunTurn → List (Result Answer Refusal)
@@ -59,7 +59,7 @@ last_one : (tally : Tally) (list : List Move) (turns : List RunTurn) → Back ta
 last_one tally list turns back f =
     ap answers_of f.is
     ∙ ap₂ ◌∷◌
-    (mill-held tally back.serves_0 back.holds back.alone (noted_by tally f.turn) f.turn.answer f.turn.list f.turn.list' f.outcome)
+    (mill_held tally back.serves_0 back.holds back.alone (noted_by tally f.turn) f.turn.answer f.turn.list f.turn.list' f.outcome)
     (ap answers_of (none_left f.later f.calls_later))
 
 last_two : GoesOn with7 (drop 4 worked_calls) (drop 4 worked_answers) 0

@@ -40,11 +40,11 @@ serves_away m on = grind (arith, nat_tests)
 
 -- ---- how many stand
 
-pub none-standing : standing (opening worked) ≡ 0
-none-standing = sum-zero 1024
+pub none_standing : standing (opening worked) ≡ 0
+none_standing = sum-zero 1024
 
 pub few_5 : standing with5 ≤ 1
-few_5 = omega (arith, none-standing, standing-seated away 5 (on_mill 3 1) (omega arith))
+few_5 = omega (arith, none_standing, standing-seated away 5 (on_mill 3 1) (omega arith))
 
 pub few_6 : standing with6 ≤ 2
 few_6 = omega (arith, few_5, standing-seated with5 6 (on_mill 2 0) (omega arith))

@@ -7,7 +7,7 @@ use Rattle.layers.specs.Aliases.{after_alias}
 use Rattle.layers.specs.Strikes.{after_strike}
 use Rattle.layers.specs.declared.pairs.Pair.{Pair}
 use Rattle.table.specs.Tally.{Tally, placement}
-use Rattle.table.proofs.TallyLaws.{standing-few}
+use Rattle.table.proofs.TallyLaws.{standing_few}
 use Rattle.board.specs.Outcomes.{Outcome}
 use Rattle.board.specs.declared.call.Answer.{Answer}
 use Rattle.board.specs.declared.call.Answer.TheVariants.{Added, Moved}
@@ -28,8 +28,8 @@ abbrev Few : Reply → Type 0
 Few reply = moves_told reply ≤ 1024
 
 call_few : (meaning : Meaning) (call : Call) (before after : Tally) (answer : Result Answer Refusal) (list list' : List Move) → Outcome meaning call before after answer list list' → Few (call_reply call answer)
-call_few meaning call before after (Ok (Added mill count)) list list' done = omega (arith, done.counted, records_few before after, standing-few before)
-call_few meaning call before after (Ok (Moved count)) list list' done = omega (arith, done.counted, records_few before after, standing-few before)
+call_few meaning call before after (Ok (Added mill count)) list list' done = omega (arith, done.counted, records_few before after, standing_few before)
+call_few meaning call before after (Ok (Moved count)) list list' done = omega (arith, done.counted, records_few before after, standing_few before)
 call_few meaning call before after (Err refusal) list list' back = omega arith
 
 where_few : (ticket : Ticket) (at : Option ℕ) → Few (where_reply ticket at)
@@ -47,21 +47,21 @@ refused_few state refusal after reply back = subst Few (sym back.answered) (omeg
 served_few : (state : State) (opened : Opened) (command : BoardCommand) (after : State) (reply : Reply) (list list' : List Move) → LineServed state opened command after reply list list' → Few reply
 served_few state opened command after reply list list' done = command_few opened.meaning command opened.tally done.tally reply list list' done.done
 
-struck-few : (state : State) (result : Result (List Pair) Refusal) (after : State) (reply : Reply) → StruckBy state result after reply → Few reply
-struck-few state (Ok pairs) after reply done = subst Few (sym done.1) (omega arith)
-struck-few state (Err refusal) after reply back = refused_few state refusal after reply back
+struck_few : (state : State) (result : Result (List Pair) Refusal) (after : State) (reply : Reply) → StruckBy state result after reply → Few reply
+struck_few state (Ok pairs) after reply done = subst Few (sym done.1) (omega arith)
+struck_few state (Err refusal) after reply back = refused_few state refusal after reply back
 
-aliased-few : (state : State) (result : Result (List Pair) Refusal) (after : State) (reply : Reply) → AliasedBy state result after reply → Few reply
-aliased-few state (Ok pairs) after reply done = subst Few (sym done.1) (omega arith)
-aliased-few state (Err refusal) after reply back = refused_few state refusal after reply back
+aliased_few : (state : State) (result : Result (List Pair) Refusal) (after : State) (reply : Reply) → AliasedBy state result after reply → Few reply
+aliased_few state (Ok pairs) after reply done = subst Few (sym done.1) (omega arith)
+aliased_few state (Err refusal) after reply back = refused_few state refusal after reply back
 
 open_few : (state : State) (opened : Opened) (result : Result BoardCommand Refusal) (after : State) (reply : Reply) (list list' : List Move) → OpenLine state opened result after reply list list' → Few reply
 open_few state opened (Ok command) after reply list list' done = served_few state opened command after reply list list' done
 open_few state opened (Err refusal) after reply list list' back = refused_few state refusal after reply back
 
 setup_few : (source : Meaning) (state : State) (result : Result SetupCommand Refusal) (after : State) (reply : Reply) (list list' : List Move) → SetupLine source state result after reply list list' → Few reply
-setup_few source state (Ok (Strike program mill)) after reply list list' done = struck-few state (after_strike program.0 mill.0 state.strikes) after reply done
-setup_few source state (Ok (Alias program other)) after reply list list' done = aliased-few state (after_alias program.0 other.0 state.aliases) after reply done
+setup_few source state (Ok (Strike program mill)) after reply list list' done = struck_few state (after_strike program.0 mill.0 state.strikes) after reply done
+setup_few source state (Ok (Alias program other)) after reply list list' done = aliased_few state (after_alias program.0 other.0 state.aliases) after reply done
 setup_few source state (Ok (Board command)) after reply list list' done = served_few state _ command after reply list list' done
 setup_few source state (Err refusal) after reply list list' back = refused_few state refusal after reply back
 

@@ -1,4 +1,4 @@
--- Aliases: the entry of a program looked up, one entry more or another in its place, and the law of what is renamed.
+-- Aliases: the entry of a program looked up, one entry more, and another in its place.
 use Rattle.std.specs.Prelude.{◌≡◌, ℕ, suc, Bool, true, false, cond, ◌||◌, List, [], ◌∷◌, ◌++◌, Some, None, Ok, Err, Option, MatchOption, ◌==◌, slice_index_or, slice_set, refl}
 use Rattle.std.proofs.Common.{sym, ap, ◌∙◌, arith}
 use Rattle.std.specs.Option.{option_map}

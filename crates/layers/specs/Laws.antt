@@ -13,8 +13,8 @@ without_lawful pairs below law = record {
   mill = λ p m able. law.mill p m (and_parts (below.able p m) (not (struck pairs p m)) able).0;
 }
 
-pub cutting_as-lawful : (entries : List Pair) (below : Meaning) → Lawful below → Lawful (cutting_as entries below)
-cutting_as-lawful entries below law = record {
+pub cutting_as_lawful : (entries : List Pair) (below : Meaning) → Lawful below → Lawful (cutting_as entries below)
+cutting_as_lawful entries below law = record {
   few = law.few;
   program = λ p m able. ltb-true p 256 (and_parts (nat_lt p 256) (below.able (alias_of entries p) m) able).0;
   mill = λ p m able. law.mill (alias_of entries p) m (and_parts (nat_lt p 256) (below.able (alias_of entries p) m) able).1;

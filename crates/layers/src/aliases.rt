@@ -2,7 +2,7 @@
 ghost use Rattle.std.specs.Prelude.{◌≡◌, [], Err, MatchResult};
 ghost use Rattle.layers.specs.Held.{held};
 ghost use Rattle.layers.specs.Aliases.{alias_of, after_alias, Alias, cutting_as};
-ghost use Rattle.layers.specs.Laws.{cutting_as-lawful};
+ghost use Rattle.layers.specs.Laws.{cutting_as_lawful};
 
 use crate::pairs::find::find;
 use crate::pairs::{Key, Pair, Pairs};
@@ -70,7 +70,7 @@ fn alias_of(table: &Pairs, program: Program) -> Program
 impl<S: Source> Source for Aliases<S> {
     ghost meaning = { λ layer. cutting_as (held layer.table) (S.Source.meaning layer.source) };
 
-    ghost lawful = { λ layer. cutting_as-lawful (held layer.table) (S.Source.meaning layer.source) (S.Source.lawful layer.source) };
+    ghost lawful = { λ layer. cutting_as_lawful (held layer.table) (S.Source.meaning layer.source) (S.Source.lawful layer.source) };
 
     fn mills(&self) -> u8 {
         self.source.mills()

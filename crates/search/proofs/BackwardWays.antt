@@ -19,9 +19,9 @@ use Rattle.search.proofs.BackwardSteps.{sought_mills}
 use Rattle.search.proofs.BackwardTally.{relocated_rest, standing_place}
 use Rattle.search.proofs.CarriedOut.{shop_out, seated-relocated}
 
-by-some : (o : Option Mill) (m : ℕ) → node_of o ≡ m → m < 64 → o ≡ Some (record { 0 = m })
-by-some None m e low = absurd (omega arith)
-by-some (Some k) m e low = ap (λ j. Some (record { 0 = j })) e
+by_some : (o : Option Mill) (m : ℕ) → node_of o ≡ m → m < 64 → o ≡ Some (record { 0 = m })
+by_some None m e low = absurd (omega arith)
+by_some (Some k) m e low = ap (λ j. Some (record { 0 = j })) e
 
 heads : {r s : Step} {p q : List Step} → ◌≡◌ {A = List Step} (r ∷ p) (s ∷ q) → (r ≡ s) × (p ≡ q)
 heads e = (cc, cc)
@@ -57,7 +57,7 @@ module _ {meaning : Meaning} {tally : Tally} {mill : ℕ} {trail : Trail} {place
       let both = heads (e ∙ link.1) in
       let by = way_end s.mill (by_of trail x) ss l.4 both.1 link.0 in
       let within : In s.mill (queue_of trail) = subst (λ k. In k (queue_of trail)) (sym by) link.0 in (
-        ap₂ (λ k o. record { ticket = record { 0 = k }; by = o }) (sym (ap (λ k. k.ticket) both.0)) (by-some (link_of trail x).by s.mill (sym by) (sought_mills S semi s.mill within)),
+        ap₂ (λ k o. record { ticket = record { 0 = k }; by = o }) (sym (ap (λ k. k.ticket) both.0)) (by_some (link_of trail x).by s.mill (sym by) (sought_mills S semi s.mill within)),
         way_back s.mill ss within l.4 (both.1 ∙ ap S.path (sym by)),
       )
 

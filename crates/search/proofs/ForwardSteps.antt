@@ -95,7 +95,7 @@ module _ (shop : Shop) (at : Placement) (n : ℕ) {queue : List ℕ} {ticket : �
   going_known known = record { path = G.path; searched = mill_known G.searched v low is (inr known); links = G.links; inside = G.inside; busy = G.busy }
 
   module _ (may : FromTicket shop at n v (record { ticket = t; mill = b })) (new : In b queue → ⊥)
-      (by-ticket : ticket b ≡ t) (by-node : node_at shop.mills (from b) ≡ v) (by-mill : (x : ℕ) → from b ≡ Some x → x < shop.mills) where
+      (by_ticket : ticket b ≡ t) (by_node : node_at shop.mills (from b) ≡ v) (by_mill : (x : ℕ) → from b ≡ Some x → x < shop.mills) where
     below : b < shop.mills
     below = edge_below shop at n v (record { ticket = t; mill = b }) may
 
@@ -110,8 +110,8 @@ module _ (shop : Shop) (at : Placement) (n : ℕ) {queue : List ℕ} {ticket : �
       path = _;
       searched = mill_new G.searched v low is may not_yet;
       links = links_new shop.mills (shop.mills ∷ queue) G.path ticket (λ m. node_at shop.mills (from m)) ticket (λ m. node_at shop.mills (from m))
-          b t v within not_yet by-ticket by-node (λ y ne. (refl, refl)) G.links;
-      inside = λ m i. ⊎_elim (λ (j : In m queue). G.inside m j) (λ (e : m ≡ b). λ x is. by-mill x (ap from (sym e) ∙ is)) (in_push m queue b i);
+          b t v within not_yet by_ticket by_node (λ y ne. (refl, refl)) G.links;
+      inside = λ m i. ⊎_elim (λ (j : In m queue). G.inside m j) (λ (e : m ≡ b). λ x is. by_mill x (ap from (sym e) ∙ is)) (in_push m queue b i);
       busy = λ m i. ⊎_elim (λ (j : In m queue). G.busy m j) (λ (e : m ≡ b). subst (λ k. 0 < load shop at k) (sym e) busy) (in_push m queue b i);
     }
 
@@ -125,9 +125,9 @@ module _ (shop : Shop) (at : Placement) (n : ℕ) {queue : List ℕ} {ticket : �
 
       stop_links : Leads shop.mills ticket from (record { ticket = t; mill = b } ∷ G.path v) b
       stop_links =
-          subst₂ (λ k x. Leads shop.mills ticket from (record { ticket = k; mill = b } ∷ G.path x) b) by-ticket by-node
+          subst₂ (λ k x. Leads shop.mills ticket from (record { ticket = k; mill = b } ∷ G.path x) b) by_ticket by_node
           (leads_more shop at n G.searched.found ticket from G.links G.inside b (from b) refl
-          (λ x e. in_later x shop.mills queue (λ same. omega (arith, by-mill x e)) (subst (λ y. In y (shop.mills ∷ queue)) (sym by-node ∙ ap (node_at shop.mills) e) within))
+          (λ x e. in_later x shop.mills queue (λ same. omega (arith, by_mill x e)) (subst (λ y. In y (shop.mills ∷ queue)) (sym by_node ∙ ap (node_at shop.mills) e) within))
           below)
 
       stop_route : Route shop at n ticket from b

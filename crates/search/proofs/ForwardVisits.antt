@@ -83,7 +83,7 @@ pub record New (old : List ℕ) (can new : ℕ → Bool) : Type 0 where
 
 module _ (shop : Shop) (at : Placement) (n : ℕ) (old : List ℕ) (ticket : ℕ → ℕ) (from : ℕ → Option ℕ) (by : Option ℕ) (h t v : ℕ)
     (low : h < length (shop.mills ∷ old)) (is : get_or (shop.mills ∷ old) h 0 ≡ v)
-    (node : node_at shop.mills by ≡ v) (by-mill : (x : ℕ) → by ≡ Some x → x < shop.mills) {can new : ℕ → Bool} (L : Leaves shop at n v t can) (N : New old can new) (G : Going shop at n old ticket from h t 0) where
+    (node : node_at shop.mills by ≡ v) (by_mill : (x : ℕ) → by ≡ Some x → x < shop.mills) {can new : ℕ → Bool} (L : Leaves shop at n v t can) (N : New old can new) (G : Going shop at n old ticket from h t 0) where
   abbrev Linked : ℕ → Type 0
   Linked b = (m : ℕ) → m < b → new m ≡ true → (ticket m ≡ t) × (from m ≡ by)
 
@@ -111,7 +111,7 @@ module _ (shop : Shop) (at : Placement) (n : ℕ) (old : List ℕ) (ticket : ℕ
       (λ (y : new b ≡ true).
       let link = linked b (omega arith) y in
       subst (λ q. Going shop at n q ticket from h t (b + 1)) (with_it b y)
-      (going_new shop at n so v (low_on b) (is_on b) (L.may b below (N.anew b y).0) (not_yet b y) link.0 (ap (node_at shop.mills) link.1 ∙ node) (λ x e. by-mill x (sym link.1 ∙ e)) (busy b (omega arith) y)))
+      (going_new shop at n so v (low_on b) (is_on b) (L.may b below (N.anew b y).0) (not_yet b y) link.0 (ap (node_at shop.mills) link.1 ∙ node) (λ x e. by_mill x (sym link.1 ∙ e)) (busy b (omega arith) y)))
       (λ (not_new : new b ≡ false).
       subst (λ q. Going shop at n q ticket from h t (b + 1)) (ap (λ l. old ++ l) (sym (numbers-without new b not_new)))
       (⊎_elim
@@ -136,7 +136,7 @@ module _ (shop : Shop) (at : Placement) (n : ℕ) (old : List ℕ) (ticket : ℕ
       let so : Going shop at n (so_far w) ticket from h t w = visited_to w (omega arith) (λ m l. linked m (omega arith)) busy in
       let link = linked w (omega arith) y in
       subst (λ q. Explored shop at n q ticket from) (with_it w y)
-      (going_stop shop at n so v (low_on w) (is_on w) (L.may w below (N.anew w y).0) (not_yet w y) link.0 (ap (node_at shop.mills) link.1 ∙ node) (λ x e. by-mill x (sym link.1 ∙ e)) empty here away)
+      (going_stop shop at n so v (low_on w) (is_on w) (L.may w below (N.anew w y).0) (not_yet w y) link.0 (ap (node_at shop.mills) link.1 ∙ node) (λ x e. by_mill x (sym link.1 ∙ e)) empty here away)
 
 -- on to the next ticket and the next node
 module _ (shop : Shop) (at : Placement) (n : ℕ) {queue : List ℕ} {ticket : ℕ → ℕ} {from : ℕ → Option ℕ} where

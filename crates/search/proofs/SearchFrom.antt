@@ -102,7 +102,7 @@ module _ (meaning : Meaning) (tally : Tally) (n program : ℕ) where
   -- a visit from the node v in place h
   module _ (trail : Trail) {h t : ℕ} (W : Walking meaning tally n program trail h t) (v : ℕ) (low : h < length (64 ∷ queue_of trail)) (is : get_or (64 ∷ queue_of trail) h 0 ≡ v)
       (mills : NumberSet) (L : Leaves (shop_for meaning tally n program) (placement tally) n v t (has mills)) (link : Link) (ticket : link.ticket.0 ≡ t)
-      (node : node_at 64 (option_map (λ m. m.0) link.by) ≡ v) (by-mill : (x : ℕ) → option_map (λ m. m.0) link.by ≡ Some x → x < 64) (after : Trail) where
+      (node : node_at 64 (option_map (λ m. m.0) link.by) ≡ v) (by_mill : (x : ℕ) → option_map (λ m. m.0) link.by ≡ Some x → x < 64) (after : Trail) where
     linked : (bound : ℕ) → Visited (fresh mills trail) link bound trail after → (m : ℕ) → m < bound → fresh mills trail m ≡ true
         → (ticket_of after m ≡ t) × (from_of after m ≡ option_map (λ m. m.0) link.by)
     linked bound V m under y = let is = V.linked m under y in (ap (λ l. l.ticket.0) is ∙ ticket, ap (λ l. option_map (λ m. m.0) l.by) is)
@@ -119,13 +119,13 @@ module _ (meaning : Meaning) (tally : Tally) (n program : ℕ) where
         → Going (shop_for meaning tally n program) (placement tally) n (queue_of after) (ticket_of after) (from_of after) h t 64
     visit_on V busy =
         subst (λ q. Going (shop_for meaning tally n program) (placement tally) n q (ticket_of after) (from_of after) h t 64) (sym V.queue)
-        (visited_to _ _ n (queue_of trail) (ticket_of after) (from_of after) (option_map (λ m. m.0) link.by) h t v low is node by-mill L (fresh_new mills trail W.sound) (going_on 64 V)
+        (visited_to _ _ n (queue_of trail) (ticket_of after) (from_of after) (option_map (λ m. m.0) link.by) h t v low is node by_mill L (fresh_new mills trail W.sound) (going_on 64 V)
         64 (omega arith) (linked 64 V) busy)
 
     explored : Stopped (load_in tally) (fresh mills trail) link trail after → Explored (shop_for meaning tally n program) (placement tally) n (queue_of after) (ticket_of after) (from_of after)
     explored S =
         subst (λ q. Explored (shop_for meaning tally n program) (placement tally) n q (ticket_of after) (from_of after)) (sym S.visited.queue)
-        (visited_stop _ _ n (queue_of trail) (ticket_of after) (from_of after) (option_map (λ m. m.0) link.by) h t v low is node by-mill L (fresh_new mills trail W.sound)
+        (visited_stop _ _ n (queue_of trail) (ticket_of after) (from_of after) (option_map (λ m. m.0) link.by) h t v low is node by_mill L (fresh_new mills trail W.sound)
         (going_on (S.mill + 1) S.visited) S.mill S.below (linked (S.mill + 1) S.visited) S.busy S.anew S.empty W.exists (not_placed meaning tally n program W.away))
 
     pub visit_stop : Stopped (load_in tally) (fresh mills trail) link trail after → Ended meaning tally n program after
@@ -140,12 +140,12 @@ module _ (meaning : Meaning) (tally : Tally) (n program : ℕ) where
   -- ---- from the ticket itself
 
   module _ (trail : Trail) (W : Walking meaning tally n program trail 0 n) (empty : queue_of trail ≡ [])
-      (mills : NumberSet) (for-it : (m : ℕ) → has mills m ≡ mill_for meaning tally.service program m) (ticket : Ticket) (is-new : ticket.0 ≡ n) (after : Trail) where
+      (mills : NumberSet) (for_it : (m : ℕ) → has mills m ≡ mill_for meaning tally.service program m) (ticket : Ticket) (is_new : ticket.0 ≡ n) (after : Trail) where
     abbrev first_link : Link
     first_link = record { ticket = ticket; by = None }
 
     first_leaves : Leaves (shop_for meaning tally n program) (placement tally) n 64 n (has mills)
-    first_leaves = leaves_ticket (shop_for meaning tally n program) (placement tally) n (has mills) (λ m. for_new meaning tally n program m ∙ sym (for-it m))
+    first_leaves = leaves_ticket (shop_for meaning tally n program) (placement tally) n (has mills) (λ m. for_new meaning tally n program m ∙ sym (for_it m))
 
     -- some mill is reached
     enter_fresh : (m : ℕ) → has mills m ≡ true → fresh mills trail m ≡ true
@@ -153,20 +153,20 @@ module _ (meaning : Meaning) (tally : Tally) (n program : ℕ) where
 
     enter_some : (m : ℕ) → m < 64 → mill_for meaning tally.service program m ≡ true → Visited (fresh mills trail) first_link 64 trail after → 0 < after.len
     enter_some m low may V =
-        let there : In m (numbers (fresh mills trail) 64) = in_numbers (fresh mills trail) 64 m low (enter_fresh m (for-it m ∙ may)) in
+        let there : In m (numbers (fresh mills trail) 64) = in_numbers (fresh mills trail) 64 m low (enter_fresh m (for_it m ∙ may)) in
         omega (arith, V.sound.long, some_in m (queue_of after) (subst (In m) (sym V.queue) (in_right m (queue_of trail) _ there)))
 
     pub enter_on : (m : ℕ) → m < 64 → mill_for meaning tally.service program m ≡ true → Visited (fresh mills trail) first_link 64 trail after → Busy (load_in tally) (fresh mills trail) 64 → Walking meaning tally n program after 1 0
     enter_on m low may V busy = record {
       exists = W.exists;
       away = W.away;
-      going = going_in _ _ n (visit_on trail W 64 (omega arith) refl mills first_leaves first_link is-new refl (λ x e. absurd (none-some x e)) after V busy);
+      going = going_in _ _ n (visit_on trail W 64 (omega arith) refl mills first_leaves first_link is_new refl (λ x e. absurd (none-some x e)) after V busy);
       sound = V.sound;
       some = λ later. enter_some m low may V;
     }
 
     pub enter_stop : Stopped (load_in tally) (fresh mills trail) first_link trail after → Ended meaning tally n program after
-    enter_stop = visit_stop trail W 64 (omega arith) refl mills first_leaves first_link is-new refl (λ x e. absurd (none-some x e)) after
+    enter_stop = visit_stop trail W 64 (omega arith) refl mills first_leaves first_link is_new refl (λ x e. absurd (none-some x e)) after
 
   -- ---- from the mill in a place of the queue
 
@@ -204,7 +204,7 @@ module _ (meaning : Meaning) (tally : Tally) (n program : ℕ) where
 
     -- the ticket stands there, and its mills are visited
     module _ (place : Place) (seat : tally.seat t ≡ Some place) (on : place.mill ≡ mill) (below : t < 1024)
-        (mills : NumberSet) (for-it : (m : ℕ) → has mills m ≡ mill_for meaning tally.service place.program m)
+        (mills : NumberSet) (for_it : (m : ℕ) → has mills m ≡ mill_for meaning tally.service place.program m)
         (ticket : Ticket) (number : ticket.0 ≡ t) (node : Mill) (standing : node.0 ≡ mill) (after : Trail) where
       abbrev next_link : Link
       next_link = record { ticket = ticket; by = Some node }
@@ -215,7 +215,7 @@ module _ (meaning : Meaning) (tally : Tally) (n program : ℕ) where
       next_leaves : Leaves (shop_for meaning tally n program) (placement tally) n mill t (has mills)
       next_leaves =
           leaves_mill (shop_for meaning tally n program) (placement tally) n (has mills) mill t here_mill below stands
-          (λ m. for_other meaning tally n program t m (stands_other meaning tally n program S.walking.away t mill stands) ∙ ap (λ o. mill_of meaning tally.service o m) seat ∙ sym (for-it m))
+          (λ m. for_other meaning tally n program t m (stands_other meaning tally n program S.walking.away t mill stands) ∙ ap (λ o. mill_of meaning tally.service o m) seat ∙ sym (for_it m))
 
       inner : (x : ℕ) → ◌≡◌ {A = Option ℕ} (Some node.0) (Some x) → x < 64
       inner x e = let same : node.0 ≡ x = cc in omega (arith, here_mill)

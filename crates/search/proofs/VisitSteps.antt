@@ -33,10 +33,10 @@ or_swap false false = refl
 
 -- one mill more, which was not reached
 module _ (link : Link) (before here : Trail) (xs : List ℕ) (R : Reached link before here xs) (mill : ℕ) (below : mill < 64)
-    (new : has before.reached mill ≡ false) (later : In mill xs → ⊥) (before-sound : Sound before) where
+    (new : has before.reached mill ≡ false) (later : In mill xs → ⊥) (before_sound : Sound before) where
   not_reached : has here.reached mill ≡ false
   not_reached =
-      not_in_both (member mill (queue_of before)) (member mill xs) (sym (before-sound.reached mill) ∙ new) (out (member mill xs) (is_member mill xs).0)
+      not_in_both (member mill (queue_of before)) (member mill xs) (sym (before_sound.reached mill) ∙ new) (out (member mill xs) (is_member mill xs).0)
       (R.sound.reached mill ∙ ap (member mill) R.queue ∙ member-append mill (queue_of before) xs)
     where
       out : (b : Bool) → (b ≡ true → In mill xs) → b ≡ false

@@ -96,7 +96,7 @@ module _ (shop : Shop) (at : Placement) (v : ℕ) (steps : List Step) (w : ℕ) 
   carried_last apart = let all = carried_loads shop at v steps w c w in grind (arith, nat_tests)
 
   pub carried_other : (m : ℕ) → (m ≡ v → ⊥) → (m ≡ w → ⊥) → load shop (carried at steps) m ≡ load shop at m
-  carried_other m not-v not-w = let all = carried_loads shop at v steps w c m in grind (arith, nat_tests)
+  carried_other m not_v not_w = let all = carried_loads shop at v steps w c m in grind (arith, nat_tests)
 
 moved_semi : (shop : Shop) (at : Placement) (s : Step) → SemiMatching shop at → s.mill < shop.mills → shop.can s.ticket s.mill ≡ true → SemiMatching shop (moved at s)
 moved_semi shop at s semi low can t m h stands =
@@ -230,9 +230,9 @@ mills_on-length v (s ∷ ss) = ap suc (mills_on-length s.mill ss)
 
 -- a chain has fewer steps than there are mills like those on it
 pub chain_few : (shop : Shop) (at : Placement) (v : ℕ) (steps : List Step) (w : ℕ) → Chain shop at v steps w
-    → (inService : ℕ → Bool) → ((m : ℕ) → In m (mills_on v steps) → inService m ≡ true) → length steps < count_to shop.mills inService
-chain_few shop at v steps w c inService all =
-    omega (arith, mills_on-length v steps, distinct_few shop.mills (mills_on v steps) inService c.once (λ m i. (chain_mills shop at v steps w c m i, all m i)))
+    → (in_service : ℕ → Bool) → ((m : ℕ) → In m (mills_on v steps) → in_service m ≡ true) → length steps < count_to shop.mills in_service
+chain_few shop at v steps w c in_service all =
+    omega (arith, mills_on-length v steps, distinct_few shop.mills (mills_on v steps) in_service c.once (λ m i. (chain_mills shop at v steps w c m i, all m i)))
 
 pub chain_short : (shop : Shop) (at : Placement) (v : ℕ) (steps : List Step) (w : ℕ) → Chain shop at v steps w → length steps < shop.mills
 chain_short shop at v steps w c = omega (arith, chain_few shop at v steps w c (λ m. true) (λ m i. refl), count_le shop.mills (λ m. true))

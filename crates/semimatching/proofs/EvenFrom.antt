@@ -68,20 +68,20 @@ total_busy shop at semi =
 pub even_from_least : (shop : Shop) (at : Placement) → SemiMatching shop at → LeastTotal shop at → Even shop at
 even_from_least shop at semi least = record {
   least = least;
-  lowest = λ other Semi-other same.
+  lowest = λ other semi_other same.
       let h = highest_load shop other in
-      let none = least (above h) (above_rises h) other Semi-other same in
+      let none = least (above h) (above_rises h) other semi_other same in
       greatest_least shop.mills (load shop at) h (λ m low. ⊎_elim
       (λ (over : h < load shop at m).
       absurd (omega (arith, total_under shop other, cost_over h m (load shop at m) over, sum_term_le shop.mills (λ k. cost (alike (above h)) k (load shop at k)) m low)))
       (λ (under : load shop at m ≤ h). under)
       (cases_lt h (load shop at m)));
-  busiest = λ other Semi-other same.
+  busiest = λ other semi_other same.
       omega (
         arith,
-        least (above 1) (above_rises 1) other Semi-other same,
+        least (above 1) (above_rises 1) other semi_other same,
         total_busy shop at semi,
-        total_busy shop other Semi-other,
+        total_busy shop other semi_other,
         sum_same shop.tickets (λ t. cond (is_some (at t)) 1 0) (λ t. cond (is_some (other t)) 1 0) (λ t h. ap (λ b. cond b 1 0) (same t h)),
       );
 }

@@ -35,13 +35,13 @@ module _ (shop : Shop) (price : Prices) (at : Placement) (v : ℕ) (steps : List
       (λ (here : m ≡ v).
       let less = cost_more price v (load shop after v) (load shop at v) (sym (carried_first shop at v steps w c apart)) in
       subst Changed (sym here) (grind (arith, nat_tests)))
-      (λ (not-v : m ≡ v → ⊥).
+      (λ (not_v : m ≡ v → ⊥).
       ⊎_elim
       (λ (here : m ≡ w).
       let more = cost_more price w (load shop at w) (load shop after w) (carried_last shop at v steps w c apart) in
       subst Changed (sym here) (grind (arith, nat_tests)))
-      (λ (not-w : m ≡ w → ⊥).
-      let same = ap (cost price m) (carried_other shop at v steps w c m not-v not-w) in
+      (λ (not_w : m ≡ w → ⊥).
+      let same = ap (cost price m) (carried_other shop at v steps w c m not_v not_w) in
       grind (arith, nat_tests))
       (cases_eq m w))
       (cases_eq m v)

@@ -16,7 +16,7 @@ use Rattle.semimatching.proofs.NoChain.{linked_more}
 use Rattle.semimatching.proofs.WalkOrder.{same_step, not_after_trans}
 use Rattle.semimatching.proofs.Places.{is_in, is_in_lem, not_in, in_push, distinct_push, index_in, index_below, in_place, index_place, place_index}
 use Rattle.semimatching.proofs.Search.{Found, Link, updated, nodes_on, complete, start_first, walk, path_within, path_once, ordered_place}
-use Rattle.semimatching.proofs.SearchSteps.{Searched, search_start, node_in, mill-none, mill_known, mill_new, mill_first, next-ticket, skip_ticket, node_done, next_node}
+use Rattle.semimatching.proofs.SearchSteps.{Searched, search_start, node_in, mill-none, mill_known, mill_new, mill_first, next_ticket, skip_ticket, node_done, next_node}
 
 -- a walk as a way to place the ticket n
 pub record Way (shop : Shop) (at : Placement) (n : ℕ) (p : List Step) (w : ℕ) : Type 0 where
@@ -279,7 +279,7 @@ module _ (shop : Shop) (at : Placement) (n : ℕ) where
             choose_stopped shop at n S.found v (record { ticket = t; mill = b }) (node_in S v low is) (inr (mill, (k, stands, below, may))) (mill_first S v low is) new empty busy
 
       pub forward_ticket : shop.mills ≤ b → Searched (FromTicket shop at n) shop.mills queue path h (t + 1) 0
-      forward_ticket end = next-ticket S v low is (λ s may same. ⊎_elim (λ e. omega arith) (λ e. omega arith) may)
+      forward_ticket end = next_ticket S v low is (λ s may same. ⊎_elim (λ e. omega arith) (λ e. omega arith) may)
 
       pub forward_skip : (at t ≡ Some v → ⊥) → Searched (FromTicket shop at n) shop.mills queue path h (t + 1) 0
       forward_skip not = skip_ticket S v low is (λ m. ⊎_elim (λ e. omega arith) (λ e. not e.1.1))

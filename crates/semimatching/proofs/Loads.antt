@@ -70,7 +70,7 @@ load_moved shop at t u v h on ne =
     let shift : (m : ℕ) → load shop (put at t (Some u)) m + share (Some v) m ≡ load shop at m + share (Some u) m = λ m. load-put_from shop at t (Some v) (Some u) h on m in (
       omega (arith, shift u, share_other v u ne, share_here u),
       omega (arith, shift v, share_here v, share_other u v (λ e. ne (sym e))),
-      λ m not-u not-v. omega (arith, shift m, share_other v m (λ e. not-v (sym e)), share_other u m (λ e. not-u (sym e))),
+      λ m not_u not_v. omega (arith, shift m, share_other v m (λ e. not_v (sym e)), share_other u m (λ e. not_u (sym e))),
     )
 
 pub load_placed : (shop : Shop) (at : Placement) (t u : ℕ) → t < shop.tickets → at t ≡ None → (m : ℕ) → load shop (put at t (Some u)) m ≡ load shop at m + cond (eqb m u) 1 0

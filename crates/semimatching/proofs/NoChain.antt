@@ -98,8 +98,8 @@ module _ (shop : Shop) (at : Placement) where
       from : (o : Option ℕ) → at t ≡ o → (shop.can t b ≡ true) ⊎ (shop.can t b ≡ false) → (a : ℕ) × (at t ≡ Some a) × (shop.can t b ≡ true)
       from None e (inl may) = absurd (let z : brings level b t ≡ 0 = cc in omega arith)
       from (Some a) e (inl may) = (a, e, may)
-      from None e (inr not-may) = absurd (omega (arith, cond-false (shop.can t b) (weight_of level (at t)) 0 not-may))
-      from (Some a) e (inr not-may) = absurd (omega (arith, cond-false (shop.can t b) (weight_of level (at t)) 0 not-may))
+      from None e (inr not_may) = absurd (omega (arith, cond-false (shop.can t b) (weight_of level (at t)) 0 not_may))
+      from (Some a) e (inr not_may) = absurd (omega (arith, cond-false (shop.can t b) (weight_of level (at t)) 0 not_may))
 
   seen_more : (t a b l : ℕ) → t < shop.tickets → at t ≡ Some a → b < shop.mills → shop.can t b ≡ true → Seen shop at a l → Seen shop at b l
   seen_more t a b l k stands low may s =

@@ -55,7 +55,7 @@ weight_rises w (Some a) (Some b) same rise = rise a b refl refl
 
 pub least_total : (shop : Shop) (price : Prices) → NeverFalls price → (at : Placement) → SemiMatching shop at → Potential shop price at Nowhere
     → (other : Placement) → SemiMatching shop other → SameTickets shop at other → total shop price at ≤ total shop price other
-least_total shop price rise at semi potential other Semi-other same =
+least_total shop price rise at semi potential other semi_other same =
     let mine = load shop at in
     let theirs = load shop other in
     let level = potential.level in
@@ -63,14 +63,14 @@ least_total shop price rise at semi potential other Semi-other same =
     let costs = sum_le mills (λ m. cost price m (mine m) + level m * theirs m) (λ m. cost price m (theirs m) + level m * mine m)
     (λ m h. cost_level price rise m (mine m) (theirs m) (level m) (potential.last m h) (potential.next m h (λ e. e))) in
     let weights = sum_le shop.tickets (λ t. weight_of level (at t)) (λ t. weight_of level (other t))
-    (λ t h. weight_rises level (at t) (other t) (same t h) (λ a b on on-other.
-    let fits = Semi-other t b h on-other in potential.rises t a b h on fits.0 fits.1)) in
+    (λ t h. weight_rises level (at t) (other t) (same t h) (λ a b on on_other.
+    let fits = semi_other t b h on_other in potential.rises t a b h on fits.0 fits.1)) in
     omega (
       arith,
       costs,
       weights,
       weigh shop at semi level,
-      weigh shop other Semi-other level,
+      weigh shop other semi_other level,
       sum_add mills (λ m. cost price m (mine m)) (λ m. level m * theirs m),
       sum_add mills (λ m. cost price m (theirs m)) (λ m. level m * mine m),
     )

@@ -31,11 +31,11 @@ pub record Searched (edge : Edges) (start : ℕ) (queue : List ℕ) (path : ℕ 
 
 -- what is not past is here or yet to come
 after_here : (t b : ℕ) (s : Step) → (Sooner s (record { ticket = t; mill = b }) → ⊥) → (s ≡ record { ticket = t; mill = b }) ⊎ Sooner (record { ticket = t; mill = b }) s
-after_here t b s not-sooner = ⊎_elim (λ e. inl e) (⊎_elim (λ a. absurd (not-sooner a)) (λ a. inr a)) (sooner_total s (record { ticket = t; mill = b }))
+after_here t b s not_sooner = ⊎_elim (λ e. inl e) (⊎_elim (λ a. absurd (not_sooner a)) (λ a. inr a)) (sooner_total s (record { ticket = t; mill = b }))
 
 unseen_since : (h t b i : ℕ) (s : Step) → (Past h t b i s → ⊥) → past h t b i s ≡ false
-unseen_since h t b i s not-past =
-    ⊎_elim (λ (seen : past h t b i s ≡ true). absurd (not-past ((past_decides h t b i s).0 seen))) (λ (e : past h t b i s ≡ false). e) (cases_Bool (past h t b i s))
+unseen_since h t b i s not_past =
+    ⊎_elim (λ (seen : past h t b i s ≡ true). absurd (not_past ((past_decides h t b i s).0 seen))) (λ (e : past h t b i s ≡ false). e) (cases_Bool (past h t b i s))
 
 -- one mill further, one step more is past
 sooner_more : (t b : ℕ) (s : Step) → Sooner s (record { ticket = t; mill = b }) → Sooner s (record { ticket = t; mill = b + 1 })
@@ -94,11 +94,11 @@ module _ {edge : Edges} {start : ℕ} {queue : List ℕ} {path : ℕ → List St
   -- what is not past at the mill b' of the same ticket: a step of v, or one of a node behind v
   coming : (b' y : ℕ) (r : Step) → In y queue → (Past h t b' (index_in y queue) r → ⊥)
       → ((y ≡ v) × ((r ≡ record { ticket = t; mill = b' }) ⊎ Sooner (record { ticket = t; mill = b' }) r)) ⊎ Before (path v) (path y)
-  coming b' y r i not-past =
+  coming b' y r i not_past =
       ⊎_elim
-      (λ (e : index_in y queue ≡ h). inl (v_only y i e, after_here t b' r (λ k. not-past (inr (e, k)))))
+      (λ (e : index_in y queue ≡ h). inl (v_only y i e, after_here t b' r (λ k. not_past (inr (e, k)))))
       (⊎_elim
-      (λ (l : index_in y queue < h). absurd (not-past (inl l)))
+      (λ (l : index_in y queue < h). absurd (not_past (inl l)))
       (λ (l : h < index_in y queue). inr (ordered_index path queue v y S.found.sorted node_in i (omega (arith, node_index)))))
       (cases_order (index_in y queue) h)
 
@@ -189,8 +189,8 @@ module _ {edge : Edges} {start : ℕ} {queue : List ℕ} {path : ℕ → List St
       (coming b y r i (not_from_Decides _ (past_decides h t b (index_in y queue) r) unseen)))
 
   -- by the ticket t, v leads to no mill from b on
-  pub next-ticket : ((s : Step) → edge v s → s.ticket ≡ t → s.mill < b) → Searched edge start queue path h (t + 1) 0
-  next-ticket below =
+  pub next_ticket : ((s : Step) → edge v s → s.ticket ≡ t → s.mill < b) → Searched edge start queue path h (t + 1) 0
+  next_ticket below =
       advance (t + 1) 0 (λ s k. inl (omega arith))
       (λ s may k.
       ⊎_elim
@@ -200,7 +200,7 @@ module _ {edge : Edges} {start : ℕ} {queue : List ℕ} {path : ℕ → List St
 
   -- by the ticket t, v leads to no mill
   pub skip_ticket : ((m : ℕ) → edge v (record { ticket = t; mill = m }) → ⊥) → Searched edge start queue path h (t + 1) 0
-  skip_ticket none = next-ticket (λ s may e. absurd (none s.mill (subst (edge v) (same_step s (record { ticket = t; mill = s.mill }) e refl) may)))
+  skip_ticket none = next_ticket (λ s may e. absurd (none s.mill (subst (edge v) (same_step s (record { ticket = t; mill = s.mill }) e refl) may)))
 
   -- all steps of v are past
   pub node_done : ((s : Step) → edge v s → Sooner s (record { ticket = t; mill = b })) → Searched edge start queue path (h + 1) 0 0
@@ -226,11 +226,11 @@ module _ {edge : Edges} {start : ℕ} {queue : List ℕ} {path : ℕ → List St
       (λ s may. ⊎_elim (λ (k : s.ticket < t). inl k) (λ (k : (s.ticket ≡ t) × (s.mill < m)). absurd (omega (arith, only s may k.0))))
 
   pub only_known : In m queue → Searched edge start queue path h (t + 1) 0
-  only_known known = next-ticket (mill_known to_mill v low at known) v low at (λ s may e. omega (arith, only s may e))
+  only_known known = next_ticket (mill_known to_mill v low at known) v low at (λ s may e. omega (arith, only s may e))
 
   pub only_new : edge v (record { ticket = t; mill = m }) → (In m queue → ⊥) → Searched edge start (queue ++ (m ∷ [])) (updated path m (record { ticket = t; mill = m } ∷ path v)) h (t + 1) 0
   only_new may new =
-      next-ticket (mill_new to_mill v low at may new) v (omega (arith, length-append queue (m ∷ []))) (get_or_append_left queue (m ∷ []) 0 h low ∙ at)
+      next_ticket (mill_new to_mill v low at may new) v (omega (arith, length-append queue (m ∷ []))) (get_or_append_left queue (m ∷ []) 0 h low ∙ at)
       (λ s able e. omega (arith, only s able e))
 
 -- where every step leads to a node that is found already, the rest of the queue adds nothing

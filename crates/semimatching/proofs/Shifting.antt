@@ -84,26 +84,26 @@ module _ (shop : Shop) (price : Prices) (at : Placement) (r : ℕ) (P : Potentia
         let high = chain_high m (subst (λ y. In y (mills_on x steps)) (sym here) (in_start x steps)) in
         let below = last_next price falls x (load shop after x) in
         lowered_above R p level m _ (omega (arith, first_next)) (λ _. omega (arith, first_next)))
-        (λ (not-x : m ≡ x → ⊥).
+        (λ (not_x : m ≡ x → ⊥).
         ⊎_elim
         (λ (here : m ≡ r).
         let is = ap (λ k. last_price price k (load shop after k)) here in
         let high = chain_high m (subst (λ y. In y (mills_on x steps)) (sym here) (in_end shop at x steps r c.linked)) in
         lowered_above R p level m _ (omega (arith, last_last)) (λ _. omega (arith, last_last)))
-        (λ (not-r : m ≡ r → ⊥).
-        let is = ap (last_price price m) (carried_other shop at x steps r c m not-x not-r) in
+        (λ (not_r : m ≡ r → ⊥).
+        let is = ap (last_price price m) (carried_other shop at x steps r c m not_x not_r) in
         lowered_above R p level m _ (omega (arith, P.last m low)) (λ h. omega (arith, greatest m low h)))
         (cases_eq m r))
         (cases_eq m x)
 
     shift_nexts : (m : ℕ) → m < shop.mills → (m ≡ r → ⊥) → lowered R p level m ≤ next_price price m (load shop after m)
-    shift_nexts m low not-r =
+    shift_nexts m low not_r =
         ⊎_elim
         (λ (here : m ≡ x).
         let is = ap (λ k. next_price price k (load shop after k)) here in
         omega (arith, first_next, lowered_in R p level m (chain_in m (subst (λ y. In y (mills_on x steps)) (sym here) (in_start x steps)))))
-        (λ (not-x : m ≡ x → ⊥).
-        omega (arith, ap (next_price price m) (carried_other shop at x steps r c m not-x not-r), lowered_below R p level m, P.next m low not-r))
+        (λ (not_x : m ≡ x → ⊥).
+        omega (arith, ap (next_price price m) (carried_other shop at x steps r c m not_x not_r), lowered_below R p level m, P.next m low not_r))
         (cases_eq m x)
 
     shift_rises : (t a b : ℕ) → t < shop.tickets → after t ≡ Some a → b < shop.mills → shop.can t b ≡ true → lowered R p level a ≤ lowered R p level b

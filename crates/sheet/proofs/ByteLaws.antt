@@ -11,17 +11,17 @@ twice_is : (n : ℕ) → twice n ≡ 2 * n
 twice_is zero = refl
 twice_is (suc n) = let h = twice_is n in omega (arith, mul-suc 2 n)
 
-get_d_twice : (ds : List ℕ) (i : ℕ) → suc (twice i) < length ds → get_or (bytes_of ds) i 0 ≡ byte_of (get_or ds (twice i) 0) (get_or ds (suc (twice i)) 0)
-get_d_twice [] i h = absurd (omega arith)
-get_d_twice (a ∷ []) i h = absurd (omega arith)
-get_d_twice (a ∷ b ∷ ds) zero h = refl
-get_d_twice (a ∷ b ∷ ds) (suc i) h = get_d_twice ds i (omega arith)
+get_or_twice : (ds : List ℕ) (i : ℕ) → suc (twice i) < length ds → get_or (bytes_of ds) i 0 ≡ byte_of (get_or ds (twice i) 0) (get_or ds (suc (twice i)) 0)
+get_or_twice [] i h = absurd (omega arith)
+get_or_twice (a ∷ []) i h = absurd (omega arith)
+get_or_twice (a ∷ b ∷ ds) zero h = refl
+get_or_twice (a ∷ b ∷ ds) (suc i) h = get_or_twice ds i (omega arith)
 
-pub get_d_bytes : (ds : List ℕ) (i : ℕ) → 2 * i + 1 < length ds → get_or (bytes_of ds) i 0 ≡ byte_of (get_or ds (2 * i) 0) (get_or ds (2 * i + 1) 0)
-get_d_bytes ds i h =
+pub get_or_bytes : (ds : List ℕ) (i : ℕ) → 2 * i + 1 < length ds → get_or (bytes_of ds) i 0 ≡ byte_of (get_or ds (2 * i) 0) (get_or ds (2 * i + 1) 0)
+get_or_bytes ds i h =
     let e = twice_is i in
     let s : suc (twice i) ≡ 2 * i + 1 = omega arith in
-    get_d_twice ds i (omega arith) ∙ (λ j. byte_of (get_or ds (e j) 0) (get_or ds (s j) 0))
+    get_or_twice ds i (omega arith) ∙ (λ j. byte_of (get_or ds (e j) 0) (get_or ds (s j) 0))
 
 drop_twice : (k : ℕ) (ds : List ℕ) → bytes_of (drop (twice k) ds) ≡ drop k (bytes_of ds)
 drop_twice zero ds = refl

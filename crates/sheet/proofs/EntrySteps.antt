@@ -203,8 +203,8 @@ module _ (text : List ℕ) (ok : is_ok (sheet_of text) ≡ true) (program : ℕ)
   at_first = let a = ahead_first text program ok in (long_ahead meant (lawful_here text ok) program small _ a, a)
 
   module _ (rest : List ℕ) (a : Ahead meant program rest) where
-    pub nothing-listed : (get_or (bytes_of rest) 0 0 ≡ 2 → ⊥) → mills_for meant program ≡ []
-    nothing-listed = not_listed meant (lawful_here text ok) program small rest a
+    pub nothing_listed : (get_or (bytes_of rest) 0 0 ≡ 2 → ⊥) → mills_for meant program ≡ []
+    nothing_listed = not_listed meant (lawful_here text ok) program small rest a
 
     pub entry_at : get_or (bytes_of rest) 0 0 ≡ 2 → EntryHere meant program rest
     entry_at = an_entry meant (lawful_here text ok) program small rest a
@@ -215,9 +215,9 @@ module _ (text : List ℕ) (ok : is_ok (sheet_of text) ≡ true) (program : ℕ)
         (long_ahead meant (lawful_here text ok) program small after b, b)
 
 -- a meaning with a mill was read from a sheet; one without has no able pair
-pub some-mill : (r : Result Meaning Refusal) → 0 < (meaning_of r).mills → is_ok r ≡ true
-some-mill (Ok m) h = refl
-some-mill (Err e) h = absurd (omega arith)
+pub some_mill : (r : Result Meaning Refusal) → 0 < (meaning_of r).mills → is_ok r ≡ true
+some_mill (Ok m) h = refl
+some_mill (Err e) h = absurd (omega arith)
 
 pub no_mill_lem : (m : Meaning) → Lawful m → m.mills ≤ 0 → (p k : ℕ) → m.able p k ≡ false
 no_mill_lem m law none p k = ⊎_elim (λ able. absurd (let below = law.mill p k able in omega arith)) (λ e. e) (cases_Bool (m.able p k))

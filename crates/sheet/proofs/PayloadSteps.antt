@@ -12,8 +12,8 @@ use Rattle.sets.proofs.Rising.{length-numbers_le}
 abbrev pub Filled : List ℕ → List ℕ → ℕ → List ℕ → Type 0
 Filled first mills count payload = (length payload ≡ 65) × (count ≡ length mills + 1) × (take count payload ≡ first ++ mills)
 
-pub few-members : (row : NumberSet) → length (members row) ≤ 64
-few-members row = length-numbers_le (has row) 64
+pub few_members : (row : NumberSet) → length (members row) ≤ 64
+few_members row = length-numbers_le (has row) 64
 
 module _ (row : NumberSet) (start here : Members) (mills : List ℕ) (from_row : remaining start ≡ members row) (came : Yields Step start mills here) where
   split : members row ≡ mills ++ remaining here
@@ -22,7 +22,7 @@ module _ (row : NumberSet) (start here : Members) (mills : List ℕ) (from_row :
   module _ (mill : ℕ) (after : Members) (next : remaining here ≡ mill ∷ remaining after) where
     -- a mill that comes has fewer than 64 before it
     pub mills_before : length mills < 64
-    mills_before = omega (arith, few-members row, (turn_place row mills here split mill after next).0)
+    mills_before = omega (arith, few_members row, (turn_place row mills here split mill after next).0)
 
     pub filled_more : (first : List ℕ) (count : ℕ) (payload : List ℕ) → Filled first mills count payload → Filled first (mills ++ mill ∷ []) (count + 1) (set payload count mill)
     filled_more first count payload so_far = (
@@ -36,7 +36,7 @@ module _ (row : NumberSet) (start here : Members) (mills : List ℕ) (from_row :
     all_come = members_end row mills here split end
 
     pub filled_few : count ≤ 65
-    filled_few = omega (arith, filled.1, few-members row, ap length all_come)
+    filled_few = omega (arith, filled.1, few_members row, ap length all_come)
 
     pub filled_all : take count payload ≡ first ++ members row
     filled_all = filled.2 ∙ ap (λ t. first ++ t) all_come

@@ -97,26 +97,26 @@ module _ (abilities : Abilities) (mills : ℕ) (is : mills ≡ (copied abilities
   pub count_room : 9 ≤ length area
   count_room = omega (arith, length_sheet abilities)
 
-  module _ (entries : ℕ) (a : List ℕ) (behind-count : entries ≡ 0 + length (count_text mills)) where
+  module _ (entries : ℕ) (a : List ℕ) (behind_count : entries ≡ 0 + length (count_text mills)) where
     nine : entries ≡ 9
-    nine = behind-count ∙ ap (λ n. 0 + n) (length_frame (count_frame mills))
+    nine = behind_count ∙ ap (λ n. 0 + n) (length_frame (count_frame mills))
 
     pub entries_room : length a ≡ length area → entries + length (entries_of abilities 256) ≤ length a
     entries_room long = omega (arith, nine, length_sheet abilities)
 
-    module _ (end : ℕ) (b : List ℕ) (behind-entries : end ≡ entries + length (entries_of abilities 256)) where
+    module _ (end : ℕ) (b : List ℕ) (behind_entries : end ≡ entries + length (entries_of abilities 256)) where
       pub end_room : length b ≡ length area → end + 7 ≤ length b
       end_room long = omega (arith, nine, length_sheet abilities)
 
       pub sheet_long : (long : ℕ) → long ≡ end + length end_text → long ≡ length (sheet_for abilities)
-      sheet_long long behind-end = omega (arith, nine, length_sheet abilities, length_frame end_frame)
+      sheet_long long behind_end = omega (arith, nine, length_sheet abilities, length_frame end_frame)
 
       pub sheet_put : (after : List ℕ) → a ≡ put 0 (count_text mills) area → b ≡ put entries (entries_of abilities 256) a → after ≡ put end end_text b → after ≡ put 0 (sheet_for abilities) area
       sheet_put after first second third =
           let lines = entries_of abilities 256 in
           let front : b ≡ put 0 (count_text mills ++ lines) area =
-          second ∙ ap (put entries lines) first ∙ put-put 0 entries (count_text mills) lines area (omega arith) behind-count in
-          let place : end ≡ 0 + length (count_text mills ++ lines) = omega (arith, behind-count, length-append (count_text mills) lines) in
+          second ∙ ap (put entries lines) first ∙ put-put 0 entries (count_text mills) lines area (omega arith) behind_count in
+          let place : end ≡ 0 + length (count_text mills ++ lines) = omega (arith, behind_count, length-append (count_text mills) lines) in
           third ∙ ap (put end end_text) front
           ∙ put-put 0 end (count_text mills ++ lines) end_text area (omega arith) place
           ∙ ap (λ t. put 0 t area) (append_assoc (count_text mills) lines end_text ∙ ap (λ n. count_text n ++ (lines ++ end_text)) is ∙ sym (sheet_parts abilities))

@@ -3,7 +3,7 @@ ghost use Rattle.std.specs.Prelude.{◌≡◌, ℕ, ◌<◌, length, Some, Ok, E
 ghost use Rattle.std.specs.Option.{option_map};
 ghost use Rattle.sheet.specs.Digits.{bytes_of};
 ghost use Rattle.sheet.specs.Lines.{lines_of};
-ghost use Rattle.sheet.specs.Sheets.{entry as anEntry, item_of, rising, count_due, entry_due, first_item};
+ghost use Rattle.sheet.specs.Sheets.{entry as an_entry, item_of, rising, count_due, entry_due, first_item};
 ghost use Rattle.sheet.specs.Content.{content, item, listed, Came};
 
 use crate::digits::byte_at;
@@ -96,7 +96,7 @@ fn rising_entry(
     floor: u16,
     line: u16,
 ) -> Result<Option<Entry<'_>>, Refusal>
-    ensures { MatchResult result (λ o. entry_due mills floor line (Some (anEntry (listed entry.entry))) ≡ Ok (option_map listed o)) (λ e. entry_due mills floor line (Some (anEntry (listed entry.entry))) ≡ Err e) }
+    ensures { MatchResult result (λ o. entry_due mills floor line (Some (an_entry (listed entry.entry))) ≡ Ok (option_map listed o)) (λ e. entry_due mills floor line (Some (an_entry (listed entry.entry))) ≡ Err e) }
 {
     if u16::from(entry.program.0) >= floor && rises(entry.mills, mills) {
         Ok(Some(entry))

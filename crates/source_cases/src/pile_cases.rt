@@ -2,7 +2,6 @@
 use crate::sheets::sheet;
 use crate::shop::shop;
 use crate::tell;
-use capability::Source;
 use layers::{Aliases, Strikes, able_aliased_over_struck, able_struck_over_aliased};
 use std::io;
 use vocabulary::{Mill, Program};

@@ -17,7 +17,7 @@ use Rattle.table.specs.Tally.{Tally, opening, placement, shop_in, mill_for, seat
 use Rattle.table.specs.Seats.{place_of, tally_from, on_mill, share_of}
 use Rattle.table.specs.Held.{meant, tally_of}
 use Rattle.table.proofs.TallyLaws.{Able, able_seated, able_serving, load-seated, seated_same}
-use Rattle.table.proofs.TableLaws.{load-few, placed_few, placed_served, seat_past, service_few}
+use Rattle.table.proofs.TableLaws.{load_few, placed_few, placed_served, seat_past, service_few}
 
 -- ---- the table without tickets
 
@@ -66,10 +66,10 @@ module _ (table : Table) (mill : ℕ) (serves : Bool)
       go false at = absurd (load-none (shop_in (meant table) (tally_of table)) (placement (tally_of table)) t mill (closes at) (placed_few table t mill on) on)
 
   pub served_below : (m : ℕ) → has service m ≡ true → m < (meant table).mills
-  served_below m in-service =
+  served_below m in_service =
       ⊎_elim
-      (λ (same : m ≡ mill). omega (arith, opens (sym (cond-true (eqb m mill) serves (has table.service m) (eq-eqb m mill same)) ∙ sym (is m) ∙ in-service)))
-      (λ (other : m ≡ mill → ⊥). table.below m (sym (cond-false (eqb m mill) serves (has table.service m) (ne_eqb m mill other)) ∙ sym (is m) ∙ in-service))
+      (λ (same : m ≡ mill). omega (arith, opens (sym (cond-true (eqb m mill) serves (has table.service m) (eq-eqb m mill same)) ∙ sym (is m) ∙ in_service)))
+      (λ (other : m ≡ mill → ⊥). table.below m (sym (cond-false (eqb m mill) serves (has table.service m) (ne_eqb m mill other)) ∙ sym (is m) ∙ in_service))
       (cases_eq m mill)
 
   pub served_able : Able (meant table) (tally_from table.seats service)
@@ -127,7 +127,7 @@ module _ (table : Table) (before : Option Seat) (fewer : List ℕ) (left : (m : 
   may_enter None may = tt
   may_enter (Some s) may = (
     service_few table s.mill.0 (and_parts ((meant table).able s.program.0 s.mill.0) ((tally_of table).service s.mill.0) may).1,
-    omega (arith, left s.mill.0, table.counted s.mill.0, load-few table s.mill.0),
+    omega (arith, left s.mill.0, table.counted s.mill.0, load_few table s.mill.0),
   )
 
   pub reseated_counted : (t : ℕ) → t < 1024 → before ≡ get_or table.seats t None → (seat : Option Seat) (more : List ℕ) → ((m : ℕ) → get_or more m 0 ≡ get_or fewer m 0 + share_of seat m)

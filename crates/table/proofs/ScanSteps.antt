@@ -13,8 +13,8 @@ unfolding sum_to
 count_more test n = ap (λ k. count_to k test) (add-one n)
 
 module _ (test : ℕ → Bool) (n count : ℕ) (so_far : count ≡ count_to n test) where
-  pub count-few : n ≤ 1024 → count ≤ 1024
-  count-few few = omega (arith, count_le n test)
+  pub count_few : n ≤ 1024 → count ≤ 1024
+  count_few few = omega (arith, count_le n test)
 
   pub count_with : test n ≡ true → count + 1 ≡ count_to (n + 1) test
   count_with passes = omega (arith, count_more test n, cond-true {A = ℕ} (test n) 1 0 passes)

@@ -47,5 +47,5 @@ module _ (table : Table) where
   load_past m past =
       load_empty (shop_in (meant table) (tally_of table)) (placement (tally_of table)) m (λ t exists on. omega (arith, service_few m (placed_served t m on)))
 
-  pub load-few : (m : ℕ) → load (shop_in (meant table) (tally_of table)) (placement (tally_of table)) m ≤ 1024
-  load-few m = count_le 1024 (λ t. stands_on (placement (tally_of table) t) m)
+  pub load_few : (m : ℕ) → load (shop_in (meant table) (tally_of table)) (placement (tally_of table)) m ≤ 1024
+  load_few m = count_le 1024 (λ t. stands_on (placement (tally_of table) t) m)

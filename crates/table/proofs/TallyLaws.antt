@@ -13,9 +13,9 @@ use Rattle.table.specs.Tally.{Place, Tally, mill_for, mill_of, shop_in, placemen
 
 -- ---- a choice between two values
 
-mapped-cond : {A B : Type 0} (f : A → B) (b : Bool) (x y : Option A) → option_map f (cond b x y) ≡ cond b (option_map f x) (option_map f y)
-mapped-cond f true x y = refl
-mapped-cond f false x y = refl
+option_map-cond : {A B : Type 0} (f : A → B) (b : Bool) (x y : Option A) → option_map f (cond b x y) ≡ cond b (option_map f x) (option_map f y)
+option_map-cond f true x y = refl
+option_map-cond f false x y = refl
 
 cond_other : {A : Type 0} (b : Bool) (x y : A) → (b ≡ true → x ≡ y) → cond b x y ≡ y
 cond_other true x y same = same refl
@@ -23,8 +23,8 @@ cond_other false x y same = refl
 
 -- ---- what is so of every tally
 
-pub standing-few : (tally : Tally) → standing tally ≤ 1024
-standing-few tally = count_le 1024 (λ t. is_some (tally.seat t))
+pub standing_few : (tally : Tally) → standing tally ≤ 1024
+standing_few tally = count_le 1024 (λ t. is_some (tally.seat t))
 
 -- a ticket that stands has a place
 pub place_of : (tally : Tally) (t m : ℕ) → placement tally t ≡ Some m → (place : Place) × (tally.seat t ≡ Some place) × (place.mill ≡ m)
@@ -38,7 +38,7 @@ place_of tally t m on = go (tally.seat t) refl on
 
 module _ (tally : Tally) (t : ℕ) (place : Option Place) where
   pub placement-seated : (k : ℕ) → placement (seated tally t place) k ≡ cond (eqb k t) (option_map (λ p. p.mill) place) (placement tally k)
-  placement-seated k = mapped-cond (λ p. p.mill) (eqb k t) place (tally.seat k)
+  placement-seated k = option_map-cond (λ p. p.mill) (eqb k t) place (tally.seat k)
 
   pub placement-put : placement (seated tally t place) ≡ put (placement tally) t (option_map (λ p. p.mill) place)
   placement-put = fun_ext placement-seated
@@ -77,8 +77,8 @@ module _ (tally : Tally) (t : ℕ) (exists : t < 1024) where
   abbrev stands : Option Place → ℕ
   stands seat = cond (is_some seat) 1 0
 
-  pub standing-added : (place : Place) → tally.seat t ≡ None → standing (seated tally t (Some place)) ≡ standing tally + 1
-  standing-added place away = omega (arith, standing-seated tally t (Some place) exists, ap stands away)
+  pub standing_added : (place : Place) → tally.seat t ≡ None → standing (seated tally t (Some place)) ≡ standing tally + 1
+  standing_added place away = omega (arith, standing-seated tally t (Some place) exists, ap stands away)
 
   pub standing_taken : (place : Place) → tally.seat t ≡ Some place → standing (seated tally t None) + 1 ≡ standing tally
   standing_taken place at = omega (arith, standing-seated tally t None exists, ap stands at)

@@ -87,8 +87,8 @@ module _ (mills : List ToolMill) (programs : List ProgramRow) (p m : ℕ) where
       sym (and_left _ _ (and_right (nat_lt p 256 && nat_lt p (length programs)) _ none))
 
   pub both_there : (r : Bool) (mill : ToolMill) (program : ProgramRow) → p < 256 → p < length programs → m < length mills → mill ≡ slice_index_or mills m mill → program ≡ slice_index_or programs p no_program → r ≡ can_cut (row_of mill) program → r ≡ (table_meaning (rows_of mills) programs).able p m
-  both_there r mill program low inside inside' the-mill the-program is =
-      is ∙ ap₂ can_cut (ap row_of the-mill ∙ sym (get_or-map row_of mills m mill no_mill inside')) the-program
+  both_there r mill program low inside inside' the_mill the_program is =
+      is ∙ ap₂ can_cut (ap row_of the_mill ∙ sym (get_or-map row_of mills m mill no_mill inside')) the_program
       ∙ sym (and_true_left _ _ (and_from _ _ (and_from _ _ (lt-ltb p 256 low) (lt-ltb p (length programs) inside)) (lt-ltb m (length (rows_of mills)) (omega (arith, length-map mills row_of)))))
     where
       and_true_left : (x y : Bool) → x ≡ true → (x && y) ≡ y

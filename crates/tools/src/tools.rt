@@ -1,6 +1,6 @@
 //! The tool rule: the tables of a shop, and the source that answers from them.
 ghost use Rattle.std.specs.Prelude.{◌≡◌, ◌≤◌, [], IfOk, if◌then◌else◌, Some, None, vec_len, MatchResult};
-ghost use Rattle.tools.specs.Tools.{magazine_fault, first_fault, fits as itFits, can_cut, sound_mills};
+ghost use Rattle.tools.specs.Tools.{magazine_fault, first_fault, fits as it_fits, can_cut, sound_mills};
 ghost use Rattle.tools.specs.Stored.{row_of, rows_of};
 
 use crate::magazine::Magazine;
@@ -82,7 +82,7 @@ impl ToolMill {
 
 /// Whether a blank is no longer than the travel on any axis.
 fn fits(blank: Extent, travel: Extent) -> bool
-    ensures { result ≡ itFits blank travel }
+    ensures { result ≡ it_fits blank travel }
 {
     blank.x <= travel.x && blank.y <= travel.y && blank.z <= travel.z
 }

@@ -25,16 +25,16 @@ few_bytes (Refused refusal) = omega arith
 pub length_head : (reply : Reply) → length (frame_text (reply_frame reply)) ≤ 21
 length_head reply = omega (arith, length_frame (reply_frame reply), few_bytes reply)
 
-module _ (reply : Reply) (moves : List Move) (head : ℕ) (behind-head : head ≡ length (frame_text (reply_frame reply))) where
+module _ (reply : Reply) (moves : List Move) (head : ℕ) (behind_head : head ≡ length (frame_text (reply_frame reply))) where
   abbrev first : List ℕ
   first = frame_text (reply_frame reply)
 
   pub moves_room : (area : List ℕ) → 21 + 15 * length moves ≤ length area → (a : List ℕ) → length a ≡ length area → head + 15 * length moves ≤ length a
   moves_room area room a long = omega (arith, length_head reply)
 
-  module _ (end : ℕ) (behind-moves : end ≡ head + length (moves_text moves)) where
+  module _ (end : ℕ) (behind_moves : end ≡ head + length (moves_text moves)) where
     pub lines_long : end ≡ length (first ++ moves_text moves)
-    lines_long = behind-moves ∙ ap (λ n. n + length (moves_text moves)) behind-head ∙ sym (length-append first (moves_text moves))
+    lines_long = behind_moves ∙ ap (λ n. n + length (moves_text moves)) behind_head ∙ sym (length-append first (moves_text moves))
 
     pub lines_short : end ≤ 21 + 15 * length moves
     lines_short = omega (arith, length_head reply, length_moves moves)

@@ -1,7 +1,7 @@
 //! What a table holds, and the changes to it.
 ghost use Rattle.std.specs.Prelude.{◌≡◌, ◌<◌, [], length, Ok, Err, MatchResult, slice_set};
 ghost use Rattle.layers.specs.Tables.{added};
-ghost use Rattle.layers.specs.Held.{held as heldIn};
+ghost use Rattle.layers.specs.Held.{held as held_in};
 
 use super::{Pair, Pairs};
 use vocabulary::Refusal;
@@ -12,7 +12,7 @@ const MOST: usize = 32;
 impl Pairs {
     /// A table without pairs.
     pub(crate) fn new() -> Pairs
-        ensures { heldIn result ≡ [] }
+        ensures { held_in result ≡ [] }
     {
         let unused = Pair {
             program: 0,
@@ -26,14 +26,14 @@ impl Pairs {
 
     /// The pairs that the table holds.
     pub(crate) fn held(&self) -> &[Pair]
-        ensures { result.now ≡ heldIn self.now }
+        ensures { result.now ≡ held_in self.now }
     {
         &self.pairs[0..self.len]
     }
 
     /// Adds a pair behind the others; a table of 32 refuses it, and stays as it is.
     pub(crate) fn add(&mut self, pair: Pair) -> Result<(), Refusal>
-        ensures { MatchResult result (λ _. added pair (heldIn self.old) ≡ Ok (heldIn self.new)) (λ e. (added pair (heldIn self.old) ≡ Err e) × (heldIn self.new ≡ heldIn self.old)) }
+        ensures { MatchResult result (λ _. added pair (held_in self.old) ≡ Ok (held_in self.new)) (λ e. (added pair (held_in self.old) ≡ Err e) × (held_in self.new ≡ held_in self.old)) }
     {
         if self.len == MOST {
             return Err(Refusal::TableFull);
@@ -45,8 +45,8 @@ impl Pairs {
 
     /// Puts a pair in the place of another.
     pub(crate) fn replace(&mut self, place: usize, pair: Pair)
-        requires { place < length (heldIn self.old) }
-        ensures { heldIn self.new ≡ slice_set (heldIn self.old) place pair }
+        requires { place < length (held_in self.old) }
+        ensures { held_in self.new ≡ slice_set (held_in self.old) place pair }
     {
         self.pairs[place] = pair;
     }

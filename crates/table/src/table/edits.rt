@@ -1,5 +1,5 @@
 //! The edits that every change is made of. Each keeps what is always true of a table.
-ghost use Rattle.std.specs.Prelude.{◌≡◌, ℕ, ◌<◌, ◌≤◌, true, false, is_some, IfSome, if◌then◌else◌, nat_eq, nat_lt};
+ghost use Rattle.std.specs.Prelude.{◌≡◌, ℕ, ◌<◌, ◌≤◌, true, false, is_some, IfSome, if◌then◌else◌, ◌==◌, nat_lt};
 ghost use Rattle.std.specs.Option.{option_map};
 ghost use Rattle.sets.specs.Sets.{has};
 ghost use Rattle.capability.specs.Copied.{copied};
@@ -34,7 +34,7 @@ pub(super) fn empty_table(abilities: Abilities, service: NumberSet) -> Table
 /// The mills in service, once a mill is put into it or taken out.
 fn served(service: NumberSet, mill: Mill, serves: bool) -> NumberSet
     requires { serves ≡ true → mill.0 < 64 }
-    ensures { (m : ℕ) → has result m ≡ (if nat_eq m mill.0 then serves else has service m) }
+    ensures { (m : ℕ) → has result m ≡ (if m == mill.0 then serves else has service m) }
 {
     let mut after = service;
     if serves {

@@ -1,7 +1,7 @@
 //! The tool source: answers for a shop's abilities from its tables.
 ghost use Rattle.std.specs.Prelude.{◌≡◌, IfOk};
 ghost use Rattle.tools.specs.Tools.{table_meaning, tool_meaning};
-ghost use Rattle.tools.specs.Stored.{rows_of, row_of};
+ghost use Rattle.tools.specs.Stored.{rows_of};
 ghost use Rattle.tools.specs.ToolSources.{source_meaning};
 ghost use Rattle.tools.specs.Laws.{source_lawful};
 

@@ -1,7 +1,7 @@
 use Rattle.std.proofs.Common.{◌+◌, ◌≤◌, cond, sym, ap, ◌∙◌, subst, add-zero, arith}
 use Rattle.std.proofs.lemmas.Bool.{lt-ltb, le-ltb}
-use Rattle.table.proofs.TableLaws.{load-few}
-use Rattle.board.proofs.Reporting.{reporting_none, reporting_busy, reporting_more, reported, cost-few}
+use Rattle.table.proofs.TableLaws.{load_few}
+use Rattle.board.proofs.Reporting.{reporting_none, reporting_busy, reporting_more, reported, cost_few}
 use Rattle.board.proofs.Settling.{load_on}
 use Rattle.board.proofs.questions.report_on.Goals as goal
 use Rattle.board.proofs.questions.report_on.Goals.{then-load-gt0, else-load-gt0}
@@ -11,14 +11,14 @@ loop-mill-init c = reporting_none (load_on c.args.table.now)
 
 pub overflow_add-flow_time : goal.overflow_add-flow_time
 overflow_add-flow_time c =
-    omega (arith, c.loop-mill.invariant.small, c.loop-mill-test.true, cost-few c.load-load.result (subst (λ n. n ≤ 1024) (sym c.load-load.ensures) (load-few c.args.table.now c.loop-mill.mill)), c.cost-flow_time.ensures)
+    omega (arith, c.loop-mill.invariant.small, c.loop-mill-test.true, cost_few c.load-load.result (subst (λ n. n ≤ 1024) (sym c.load-load.ensures) (load_few c.args.table.now c.loop-mill.mill)), c.cost-flow_time.ensures)
 
 pub overflow_add-busy_mills : goal.overflow_add-busy_mills
 overflow_add-busy_mills c = omega (arith, reporting_busy _ _ _ _ _ c.loop-mill.invariant, c.loop-mill-test.true)
 
 pub loop-mill-preserved : goal.loop-mill-preserved
 loop-mill-preserved c =
-    reporting_more _ _ _ _ _ c.loop-mill.invariant (load-few c.args.table.now c.loop-mill.mill) c.load-load.result _ _ _ c.load-load.ensures c.max-highest_load.ensures
+    reporting_more _ _ _ _ _ c.loop-mill.invariant (load_few c.args.table.now c.loop-mill.mill) c.load-load.result _ _ _ c.load-load.ensures c.max-highest_load.ensures
     (elim c.if-load-gt0.branch [
       | then-load-gt0 w ↦ w.busy_mills-is ∙ ap (λ b. c.loop-mill.busy_mills + cond b 1 0) (sym (lt-ltb 0 c.load-load.result w.if-load-gt0.true))
       | else-load-gt0 w ↦

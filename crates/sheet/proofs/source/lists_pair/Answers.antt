@@ -3,12 +3,12 @@ use Rattle.std.proofs.lemmas.Bool.{le-ltb}
 use Rattle.sets.specs.Sets.{member}
 use Rattle.sheet.specs.Sheets.{sheet_of, meaning_of}
 use Rattle.sheet.proofs.Canonical.{lawful_meaning}
-use Rattle.sheet.proofs.EntrySteps.{some-mill, no_mill_lem}
+use Rattle.sheet.proofs.EntrySteps.{some_mill, no_mill_lem}
 use Rattle.sheet.proofs.MillLaws.{able_member}
 use Rattle.sheet.proofs.source.lists_pair.Goals as goal
 
 pub mills_of-requires : goal.mills_of-requires
-mills_of-requires c = some-mill (sheet_of c.args.text.now) (subst (λ n. 0 < n) c.requires c.if-mills-gt0.true)
+mills_of-requires c = some_mill (sheet_of c.args.text.now) (subst (λ n. 0 < n) c.requires c.if-mills-gt0.true)
 
 pub returns-then-mills-gt0 : goal.returns-then-mills-gt0
 returns-then-mills-gt0 c =

@@ -1,6 +1,6 @@
 use Rattle.std.proofs.Common.{◌+◌, ◌*◌, ◌≤◌, length, get_or, sym, ap, ◌∙◌, arith, length-drop, rules}
 use Rattle.sheet.specs.Digits.{bytes_of}
-use Rattle.sheet.proofs.EntrySteps.{sheet_long, at_first, nothing-listed, entry_at, at_next, entry_long, entry_mills, entry_past}
+use Rattle.sheet.proofs.EntrySteps.{sheet_long, at_first, nothing_listed, entry_at, at_next, entry_long, entry_mills, entry_past}
 use Rattle.sheet.proofs.source.mills_of.Goals as goal
 use Rattle.sheet.proofs.source.mills_of.Goals.{else-loop-entry-test, then-loop-entry-test+else-entry-program+then-entry-program-2}
 
@@ -43,7 +43,7 @@ returns c =
     let text = c.args.text.now in
     let rest = c.loop-entry.rest.now in
     elim c.loop-entry-test.branch [
-      | else-loop-entry-test w ↦ sym (nothing-listed text c.requires c.args.program (search rules) rest c.loop-entry.invariant.1 (λ two. w.loop-entry-test.false (c.byte_at.ensures ∙ two)))
+      | else-loop-entry-test w ↦ sym (nothing_listed text c.requires c.args.program (search rules) rest c.loop-entry.invariant.1 (λ two. w.loop-entry-test.false (c.byte_at.ensures ∙ two)))
       | then-loop-entry-test+else-entry-program+then-entry-program-2 w ↦
           sym
           (entry_past _ c.args.program rest (entry_at text c.requires c.args.program (search rules) rest c.loop-entry.invariant.1 (sym c.byte_at.ensures ∙ w.loop-entry-test.true)) w.front_entry.result.0 w.front_entry.result.1.now w.front_entry.ensures w.if-entry-program-2.true)

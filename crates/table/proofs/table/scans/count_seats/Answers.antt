@@ -1,5 +1,5 @@
 use Rattle.std.proofs.Common.{ℕ, Bool, get_or, is_some, None, sym, ◌∙◌, arith}
-use Rattle.table.proofs.ScanSteps.{count_none, count-few, count_with, count-without}
+use Rattle.table.proofs.ScanSteps.{count_none, count_few, count_with, count-without}
 use Rattle.table.proofs.table.scans.count_seats.Goals as goal
 use Rattle.table.proofs.table.scans.count_seats.Goals.{then-is_some, else-is_some}
 
@@ -8,7 +8,7 @@ loop-seat-init c = (omega arith, count_none (λ t. is_some (get_or c.args.seats.
 
 pub overflow_add-count : goal.overflow_add-count
 overflow_add-count c =
-    omega (arith, count-few (λ t. is_some (get_or c.args.seats.now t None)) c.loop-seat.seat-index c.loop-seat.count c.loop-seat.invariant.1 c.loop-seat.invariant.0)
+    omega (arith, count_few (λ t. is_some (get_or c.args.seats.now t None)) c.loop-seat.seat-index c.loop-seat.count c.loop-seat.invariant.1 c.loop-seat.invariant.0)
 
 pub loop-seat-preserved : goal.loop-seat-preserved
 loop-seat-preserved c =

@@ -6,7 +6,7 @@ pub returns : goal.returns
 returns c =
     let made = c.in_ok-magazine.magazine.tools.bits in
     let given = c.args.row.tools in
-    let made-fits : made < 2 ^ 64 = search rules in
-    let given-fits : given < 2 ^ 64 = search rules in
-    let same : made ≡ given = same_set made given made-fits given-fits (λ k _. c.in_ok-magazine.ensures.1 k) in
+    let made_fits : made < 2 ^ 64 = search rules in
+    let given_fits : given < 2 ^ 64 = search rules in
+    let same : made ≡ given = same_set made given made_fits given_fits (λ k _. c.in_ok-magazine.ensures.1 k) in
     (c.in_ok-magazine.ensures.0, λ i. record { tools = same i; travel = c.args.row.travel })

@@ -14,7 +14,7 @@ returns c =
     let programs = c.args.programs.now in
     let mill = c.in-Some-get.candidate.now in
     let found = c.in-Some.ensures.lookup.3 in
-    let found-mill = c.in-Some-get.ensures.lookup.3 in
+    let found_mill = c.in-Some-get.ensures.lookup.3 in
     let low : c.args.program.0 < 256 = search rules in
     both_there mills programs c.args.program.0 c.args.mill.0 c.can_cut.result mill c.in-Some.row.now low (omega arith) (omega arith)
-    (found-mill.1 mill ∙ ap (λ m. get_or mills m mill) c.from-2.ensures) (found.1 no_program ∙ ap (λ p. get_or programs p no_program) c.from.ensures) c.can_cut.ensures
+    (found_mill.1 mill ∙ ap (λ m. get_or mills m mill) c.from-2.ensures) (found.1 no_program ∙ ap (λ p. get_or programs p no_program) c.from.ensures) c.can_cut.ensures
