@@ -23,7 +23,8 @@ impl Trail {
     {
         for mill in mills.difference(self.reached).iter() {
             self.reach(Mill(mill), Link { ticket, by });
-            if table.load(Mill(mill)) == 0 {
+            let empty = table.load(Mill(mill)) == 0;
+            if empty {
                 return true;
             }
         }

@@ -5,7 +5,7 @@ use Rattle.table.specs.Held.{tally_of}
 use Rattle.search.specs.Visits.{load_in}
 use Rattle.search.proofs.VisitSteps.{Turn, Reached, reached_none, laden_more, turn_below, turn_room, turn_more, turn_stopped, visit_all, visit_busy}
 use Rattle.search.proofs.trail.Trail.visit.Goals as goal
-use Rattle.search.proofs.trail.Trail.visit.Goals.{In-Some, After-reach, at-After-reach, at-reach-requires, at-returns-then-load-eq0, at-loop-mill-preserved}
+use Rattle.search.proofs.trail.Trail.visit.Goals.{In-Some, After-reach, at-After-reach, at-reach-requires, at-returns-then-empty, at-loop-mill-preserved}
 
 -- the mills that are not reached yet come one by one
 turn : (c : In-Some) → Turn c.args.mills c.args.self.now c.loop-mill.yielded c.in-Some.mill
@@ -31,19 +31,19 @@ reach-requires c =
     let T = turn (at-reach-requires c).In-Some in
     record { mill = turn_below _ _ T; room = turn_room _ _ T c.requires _ _ c.loop-mill.invariant.0 }
 
-pub returns-then-load-eq0 : goal.returns-then-load-eq0
-returns-then-load-eq0 c = record {
+pub returns-then-empty : goal.returns-then-empty
+returns-then-empty c = record {
   busy = λ e. absurd (true≢false e);
   all = λ e. absurd (true≢false e);
   stopped = λ e.
-      turn_stopped _ _ (turn (at-returns-then-load-eq0 c).In-Some) (load_in (tally_of c.args.table.now)) _ _
-      (reached (at-returns-then-load-eq0 c).After-reach) c.loop-mill.invariant.1 (sym c.load.ensures ∙ c.if-load-eq0.true);
+      turn_stopped _ _ (turn (at-returns-then-empty c).In-Some) (load_in (tally_of c.args.table.now)) _ _
+      (reached (at-returns-then-empty c).After-reach) c.loop-mill.invariant.1 (sym c.load-empty.ensures ∙ c.if-empty.true);
 }
 
 pub loop-mill-preserved : goal.loop-mill-preserved
 loop-mill-preserved c = (
   reached (at-loop-mill-preserved c).After-reach,
-  laden_more (load_in (tally_of c.args.table.now)) c.loop-mill.yielded c.in-Some.mill c.loop-mill.invariant.1 (omega (arith, c.load.ensures, c.if-load-eq0.false)),
+  laden_more (load_in (tally_of c.args.table.now)) c.loop-mill.yielded c.in-Some.mill c.loop-mill.invariant.1 (omega (arith, c.load-empty.ensures, c.if-empty.false)),
 )
 
 pub returns : goal.returns
