@@ -5,7 +5,7 @@ use vocabulary::{Mill, Program, Ticket};
 pub(crate) const TICKETS: u16 = 1024;
 
 /// A call that changes a board.
-#[derive(Clone, Copy)]
+#[derive(Clone, Copy, PartialEq, Eq, Debug)]
 pub enum Call {
     /// A ticket comes, with its program.
     Add { ticket: Ticket, program: Program },
@@ -18,7 +18,7 @@ pub enum Call {
 }
 
 /// What an accepted call answers: how many tickets it moved, and of an added ticket the mill that it stands on.
-#[derive(Clone, Copy)]
+#[derive(Clone, Copy, PartialEq, Eq, Debug)]
 pub enum Answer {
     Added { mill: Mill, count: u16 },
     Moved { count: u16 },
