@@ -26,8 +26,8 @@ impl Abilities {
     {
         let mills = source.mills();
         let mut rows = [NumberSet::empty(); 256];
-        for program in 0..256 {
-            rows[program] = row_of(source, Program(program as u8), mills);
+        for (program, row) in rows.iter_mut().enumerate() {
+            *row = row_of(source, Program(program as u8), mills);
         }
         Abilities { mills, rows }
     }
