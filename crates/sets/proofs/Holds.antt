@@ -5,7 +5,9 @@ use lib.Arith.{lt-one}
 use lib.Bits.{bit_and, bit_or, and_shr, or_shr, and_mod, or_mod}
 use lib.Count.{count_trailing_zeros, under}
 use lib.Dec.{eqb-zero-suc, eqb-suc-zero, eqb-suc-suc, leb-zero, leb-suc-zero, leb-suc-suc}
-use Rattle.std.proofs.lemmas.Bool.{cases_lt, lt-ltb, and_left}
+use Rattle.std.specs.Bool.{Decides}
+use Rattle.std.proofs.lemmas.Nat.{and_le_l}
+use Rattle.std.proofs.lemmas.Bool.{cases_lt, lt-ltb, and_left, eq-eqb, eqb-true}
 use Rattle.std.proofs.lemmas.Bool.Decides.{nat_tests}
 use Rattle.sets.specs.Sets.{holds}
 
@@ -132,6 +134,18 @@ holds_and_not a b k ha hb = holds_and a (2 ^ 64 - 1 - b) k ∙ ap (λ t. holds a
 
     outside : 64 ≤ k → (holds a k && (ltb k 64 && not (holds b k))) ≡ (holds a k && not (holds b k))
     outside le = and_left (holds a k) (ltb k 64 && not (holds b k)) (holds_past a k ha le) ∙ sym (and_left (holds a k) (not (holds b k)) (holds_past a k ha le))
+
+-- each number that `a` holds is held by `b`
+pub holds_within : (a b : ℕ) → a < 2 ^ 64 → b < 2 ^ 64 → Decides (eqb (bit_and a (2 ^ 64 - 1 - b)) 0) ((k : ℕ) → holds a k ≡ true → holds b k ≡ true)
+holds_within a b ha hb = (
+  λ none k here.
+      let left : (holds a k && not (holds b k)) ≡ false = sym (holds_and_not a b k ha hb) ∙ ap (λ bits. holds bits k) (eqb-true (bit_and a (2 ^ 64 - 1 - b)) 0 none) ∙ holds-zero k in
+      grind (arith, nat_tests),
+  λ all. eq-eqb (bit_and a (2 ^ 64 - 1 - b)) 0 (same_set (bit_and a (2 ^ 64 - 1 - b)) 0 (omega (arith, and_le_l a (2 ^ 64 - 1 - b))) (pow_pos 64) (λ k l.
+      let each = all k in
+      let left : (holds a k && not (holds b k)) ≡ false = grind (arith, nat_tests) in
+      holds_and_not a b k ha hb ∙ left ∙ sym (holds-zero k))),
+)
 
 -- ---- the lowest bit that is set
 

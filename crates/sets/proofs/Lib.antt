@@ -1,3 +1,4 @@
 pub mod Holds
 pub mod Members
 pub mod Rising
+pub mod Rules

@@ -3,7 +3,6 @@ ghost use Rattle.std.specs.Prelude.{◌≡◌, ℕ, ◌<◌, ◌≤◌, min, tru
 ghost use Rattle.sets.specs.Sets.{holds, has, members, remaining, Step};
 ghost use Rattle.std.specs.Iterator.{at_most};
 
-mod bits;
 #[cfg(test)]
 mod tests;
 
@@ -13,21 +12,33 @@ pub struct NumberSet {
     bits: u64,
 }
 
+#[tactic(auto, using(crate::proofs::Rules::bit_rules))]
 impl NumberSet {
     /// The set without members.
     pub fn empty() -> NumberSet
         ensures { (k : ℕ) → has result k ≡ false }
     {
-        NumberSet { bits: bits::low(0) }
+        NumberSet { bits: 0 }
     }
 
     /// The numbers below `count`: all 64 of them where `count` is above 64.
     pub fn below(count: u8) -> NumberSet
         ensures { (k : ℕ) → has result k ≡ nat_lt k (min count 64) }
     {
-        NumberSet {
-            bits: bits::low(count),
-        }
+        let low = if count < 64 {
+            (1 << count) - 1
+        } else {
+            u64::MAX
+        };
+        NumberSet { bits: low }
+    }
+
+    /// The set of one number below 64, and the set without members for any other.
+    fn only(number: u8) -> NumberSet
+        ensures { (k : ℕ) → has result k ≡ (k == number && nat_lt number 64) }
+    {
+        let bit = if number < 64 { 1 << number } else { 0 };
+        NumberSet { bits: bit }
     }
 
     /// The numbers whose bits are 1, bit 0 for the number 0.
@@ -41,21 +52,21 @@ impl NumberSet {
     pub fn contains(self, number: u8) -> bool
         ensures { result ≡ has self number }
     {
-        bits::is_set(self.bits, number)
+        number < 64 && (self.bits >> number) & 1 == 1
     }
 
     /// Adds a number below 64; any other is left out.
     pub fn insert(&mut self, number: u8)
         ensures { (k : ℕ) → has self.new k ≡ ((k == number && nat_lt number 64) || has self.old k) }
     {
-        self.bits = bits::with(self.bits, number);
+        *self = self.union(NumberSet::only(number));
     }
 
     /// Takes a number out, if it is a member.
     pub fn remove(&mut self, number: u8)
         ensures { (k : ℕ) → has self.new k ≡ (not (k == number) && has self.old k) }
     {
-        self.bits = bits::without(self.bits, number);
+        *self = self.difference(NumberSet::only(number));
     }
 
     /// The members of either set.
@@ -63,7 +74,7 @@ impl NumberSet {
         ensures { (k : ℕ) → has result k ≡ (has self k || has other k) }
     {
         NumberSet {
-            bits: bits::either(self.bits, other.bits),
+            bits: self.bits | other.bits,
         }
     }
 
@@ -72,7 +83,7 @@ impl NumberSet {
         ensures { (k : ℕ) → has result k ≡ (has self k && has other k) }
     {
         NumberSet {
-            bits: bits::both(self.bits, other.bits),
+            bits: self.bits & other.bits,
         }
     }
 
@@ -81,7 +92,7 @@ impl NumberSet {
         ensures { (k : ℕ) → has result k ≡ (has self k && not (has other k)) }
     {
         NumberSet {
-            bits: bits::first_only(self.bits, other.bits),
+            bits: self.bits & !other.bits,
         }
     }
 
@@ -89,7 +100,7 @@ impl NumberSet {
     pub fn is_subset(self, other: NumberSet) -> bool
         ensures { Decides result ((k : ℕ) → has self k ≡ true → has other k ≡ true) }
     {
-        bits::within(self.bits, other.bits)
+        self.bits & !other.bits == 0
     }
 
     /// Whether there is no member.
@@ -104,14 +115,18 @@ impl NumberSet {
         ensures value { result ≡ length (members self) }
         ensures bound { result ≤ 64 }
     {
-        bits::count(self.bits)
+        self.bits.count_ones() as u8
     }
 
     /// The least member, or `None` of an empty set.
     pub fn first(self) -> Option<u8>
         ensures { MatchOption result ((k : ℕ) → has self k ≡ false) (λ n. (n < 64) × (has self n ≡ true) × ((k : ℕ) → k < n → has self k ≡ false)) }
     {
-        bits::lowest(self.bits)
+        if self.bits == 0 {
+            None
+        } else {
+            Some(self.bits.trailing_zeros() as u8)
+        }
     }
 
     /// Takes the least member out.

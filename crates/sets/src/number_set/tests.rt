@@ -10,11 +10,7 @@ use std::test::Fail;
 fn listed(heap: Global, set: NumberSet) -> Result<Vec<u8>, AllocError>
     ensures { IfOk result (λ v. v.items ≡ members set) }
 {
-    let mut found = Vec::new(heap);
-    for number in set.iter() {
-        found.push(number)?;
-    }
-    Ok(found)
+    set.iter().collect(heap)
 }
 
 #[test]

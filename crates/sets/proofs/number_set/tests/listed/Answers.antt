@@ -1,11 +1,9 @@
--- At the end all members have come.
-use Rattle.std.proofs.Common.{◌∙◌}
-use Rattle.sets.proofs.Members.{members_split, members_end}
+-- What `collect` takes from the iterator is what remains to it.
+use Rattle.std.proofs.Common.{subst}
+use Rattle.std.proofs.lemmas.Iterator.{YieldsList, items_from_collect}
+use Rattle.sets.specs.Sets.{Step}
+use Rattle.sets.proofs.Members.{members_road}
 use Rattle.sets.proofs.number_set.tests.listed.Goals as goal
 
 pub returns : goal.returns
-returns c =
-    let xs = c.loop-number.yielded in
-    let here = c.loop-number.number-iterator in
-    let split = members_split c.args.set xs here c.iter-number-items.ensures c.into_iter-number-iterator.ensures.into_iter_gives c.loop-number.yielded_by in
-    c.loop-number.invariant ∙ members_end c.args.set xs here split c.in-None.ensures.steps.0
+returns c = items_from_collect c.collect.result c.collect.ensures.ran (subst (YieldsList Step (λ n. n) c.iter.result) c.iter.ensures (members_road c.iter.result))

@@ -1,15 +1,12 @@
 -- One bit is a power of two; from 64 on there is none.
 use Rattle.std.proofs.Common.{◌&&◌, eqb, sym, ap, ◌∙◌}
 use Rattle.std.proofs.lemmas.Nat.{one_shl}
-use Rattle.std.proofs.lemmas.Bool.{lt-ltb, le-ltb, and_right}
+use Rattle.std.proofs.lemmas.Bool.{lt-ltb}
 use Rattle.sets.specs.Sets.{holds}
-use Rattle.sets.proofs.Holds.{holds_one_bit, holds-zero, and_true}
-use Rattle.sets.proofs.number_set.bits.one.Goals as goal
+use Rattle.sets.proofs.Holds.{holds_one_bit, and_true}
+use Rattle.sets.proofs.number_set.NumberSet.only.Goals as goal
 
 pub returns-then-number-lt64 : goal.returns-then-number-lt64
 returns-then-number-lt64 c k =
     let n = c.args.number in
     ap (λ bits. holds bits k) (one_shl n 64 c.if-number-lt64.true) ∙ holds_one_bit n k ∙ sym (ap (λ t. eqb k n && t) (lt-ltb n 64 c.if-number-lt64.true) ∙ and_true (eqb k n))
-
-pub returns-else-number-lt64 : goal.returns-else-number-lt64
-returns-else-number-lt64 c k = let n = c.args.number in holds-zero k ∙ sym (and_right (eqb k n) _ (le-ltb n 64 c.if-number-lt64.false))

@@ -3,7 +3,7 @@ use Rattle.std.proofs.Common.{◌≡◌, ◌-◌, min, ltb, ap, ◌∙◌, arith
 use Rattle.std.proofs.lemmas.Nat.{one_shl}
 use Rattle.sets.specs.Sets.{holds}
 use Rattle.sets.proofs.Holds.{holds-below}
-use Rattle.sets.proofs.number_set.bits.low.Goals as goal
+use Rattle.sets.proofs.number_set.NumberSet.below.Goals as goal
 
 pub returns-then-count-lt64 : goal.returns-then-count-lt64
 returns-then-count-lt64 c k =
