@@ -1,5 +1,5 @@
 -- What the edits of a table keep.
-use Rattle.std.proofs.Common.{◌≡◌, ℕ, ◌+◌, ◌<◌, ◌≤◌, Bool, true, false, cond, eqb, ltb, List, length, get_or, set, replicate, is_some, IfSome, Some, None, Option, sym, refl, ap, ◌∙◌, subst, ⊎_elim, arith}
+use Rattle.std.proofs.Common.{◌≡◌, ℕ, ◌+◌, ◌-◌, ◌<◌, ◌≤◌, min, Bool, true, false, cond, eqb, ltb, List, length, get_or, set, replicate, IfSome, Some, None, Option, sym, refl, ap, ◌∙◌, subst, ⊎_elim, arith}
 use mathlib.Core.Path.{fun_ext}
 use Rattle.std.specs.Option.{option_map}
 use Rattle.std.proofs.lemmas.List.{get_or_past, get_or-replicate, get_or-set_same, get_or-set_other, length-replicate, length-set}
@@ -10,14 +10,14 @@ use Rattle.capability.specs.Copied.{copied}
 use Rattle.capability.specs.Meaning.{Meaning}
 use Rattle.capability.specs.declared.abilities.Abilities.{Abilities}
 use Rattle.semimatching.specs.Placements.{load}
-use Rattle.semimatching.proofs.Loads.{load_empty, load-none, load-some}
+use Rattle.semimatching.proofs.Loads.{share, load_empty, load-none, load-some}
 use Rattle.table.specs.declared.seat.Seat.{Seat}
 use Rattle.table.specs.declared.table.Table.{Table}
 use Rattle.table.specs.Tally.{Tally, opening, placement, shop_in, mill_for, seated, serving}
 use Rattle.table.specs.Seats.{place_of, tally_from, on_mill, share_of}
 use Rattle.table.specs.Held.{meant, tally_of}
-use Rattle.table.proofs.TallyLaws.{Able, able_seated, able_serving, load-seated, seated_same}
-use Rattle.table.proofs.TableLaws.{load_few, placed_few, placed_served, seat_past, service_few}
+use Rattle.table.proofs.TallyLaws.{Able, able_seated, able_serving, load-seated}
+use Rattle.table.proofs.TableLaws.{placed_few, placed_served, service_few}
 
 -- ---- the table without tickets
 
@@ -42,9 +42,12 @@ module _ (service : NumberSet) (n : ℕ) where
   pub empty_counted : (meaning : Meaning) (k m : ℕ) → get_or (replicate k 0) m 0 ≡ on_mill (replicate n None) service m
   empty_counted meaning k m = repeated k m 0 ∙ sym (load_empty (shop_in meaning empty) (placement empty) m (λ t exists on. nowhere t m on))
 
-  module _ (abilities : Abilities) (all : (m : ℕ) → has service m ≡ ltb m (copied abilities).mills) where
-    pub empty_below : (m : ℕ) → has service m ≡ true → m < (copied abilities).mills
-    empty_below m serves = ltb-true m (copied abilities).mills (sym (all m) ∙ serves)
+  module _ (abilities : Abilities) (below : (m : ℕ) → has service m ≡ ltb m (min abilities.mills 64)) where
+    all : (m : ℕ) → has service m ≡ ltb m abilities.mills
+    all m = below m ∙ ap (ltb m) (omega (arith, abilities.lawful.few))
+
+    pub empty_below : (m : ℕ) → has service m ≡ true → m < abilities.mills
+    empty_below m serves = ltb-true m abilities.mills (sym (all m) ∙ serves)
 
     pub empty_tally : empty ≡ opening (copied abilities)
     empty_tally i = record { seat = fun_ext nobody i; service = fun_ext all i }
@@ -89,20 +92,6 @@ tally_set seats service t seat inside i = record { seat = fun_ext at i; service 
         ap (option_map place_of) (get_or-set_other seats t k seat None other) ∙ sym (cond-false (eqb k t) (option_map place_of seat) (option_map place_of (get_or seats k None)) (ne_eqb k t other)))
         (cases_eq k t)
 
--- a ticket from 1,024 on has no seat and gets none
-pub reseated_past : (table : Table) (t : ℕ) (seat : Option Seat) → (is_some seat ≡ true → is_some ((tally_of table).seat t) ≡ false → t < 1024) → 1024 ≤ t → tally_of table ≡ seated (tally_of table) t (option_map place_of seat)
-reseated_past table t None exists past = sym (seated_same (tally_of table) t) ∙ ap (seated (tally_of table) t) (seat_past table t past)
-reseated_past table t (Some seat) exists past = absurd (omega (arith, exists refl (ap is_some (seat_past table t past))))
-
--- its old seat is on a mill below 64, whose load counts it
-pub may_leave : (table : Table) (t : ℕ) → t < 1024 → (before : Option Seat) → before ≡ get_or table.seats t None → IfSome before (λ s. (s.mill.0 < 64) × (0 < get_or table.loads s.mill.0 0))
-may_leave table t exists None was = tt
-may_leave table t exists (Some s) was =
-    let on : placement (tally_of table) t ≡ Some s.mill.0 = ap (λ seat. option_map (λ place. place.mill) (option_map place_of seat)) (sym was) in (
-      service_few table s.mill.0 (placed_served table t s.mill.0 on),
-      omega (arith, table.counted s.mill.0, load-some (shop_in (meant table) (tally_of table)) (placement (tally_of table)) t s.mill.0 exists on),
-    )
-
 -- a ticket of the seat's program may stand on the seat's mill
 abbrev May : Table → Option Seat → Type 0
 May table seat = IfSome seat (λ s. mill_for (meant table) (tally_of table).service s.program.0 s.mill.0 ≡ true)
@@ -121,24 +110,69 @@ module _ (table : Table) (t : ℕ) (exists : t < 1024) (seat : Option Seat) wher
   pub reseated_whole : length (set table.seats t seat) ≡ 1024
   reseated_whole = length-set table.seats t seat ∙ table.whole
 
--- once the old seat is counted off the loads
-module _ (table : Table) (before : Option Seat) (fewer : List ℕ) (left : (m : ℕ) → get_or fewer m 0 + share_of before m ≡ get_or table.loads m 0) where
-  pub may_enter : (seat : Option Seat) → May table seat → IfSome seat (λ s. (s.mill.0 < 64) × (get_or fewer s.mill.0 0 ≤ 1024))
-  may_enter None may = tt
-  may_enter (Some s) may = (
-    service_few table s.mill.0 (and_parts ((meant table).able s.program.0 s.mill.0) ((tally_of table).service s.mill.0) may).1,
-    omega (arith, left s.mill.0, table.counted s.mill.0, load_few table s.mill.0),
-  )
-
-  pub reseated_counted : (t : ℕ) → t < 1024 → before ≡ get_or table.seats t None → (seat : Option Seat) (more : List ℕ) → ((m : ℕ) → get_or more m 0 ≡ get_or fewer m 0 + share_of seat m)
-      → (m : ℕ) → get_or more m 0 ≡ on_mill (set table.seats t seat) table.service m
-  reseated_counted t exists was seat more entered m =
+  pub reseated_counted : (loads : List ℕ) → ((m : ℕ) → get_or loads m 0 + share (placement (tally_of table) t) m ≡ get_or table.loads m 0 + share_of seat m)
+      → (m : ℕ) → get_or loads m 0 ≡ on_mill (set table.seats t seat) table.service m
+  reseated_counted loads changed m =
       omega (
         arith,
-        entered m,
-        left m,
+        changed m,
         table.counted m,
-        ap (λ s. share_of s m) was,
         load-seated (meant table) (tally_of table) t (option_map place_of seat) exists m,
-        ap (λ tally. load (shop_in (meant table) tally) (placement tally) m) (reseated table t exists seat),
+        ap (λ tally. load (shop_in (meant table) tally) (placement tally) m) reseated,
       )
+
+pub changed_complete : (table : Table) (k load : ℕ) → length (set table.loads k load) ≡ 64
+changed_complete table k load = length-set table.loads k load ∙ table.complete
+
+-- ---- the loads, with one more or one fewer at a place
+
+module _ (loads : List ℕ) (k : ℕ) (inside : k < length loads) (m : ℕ) where
+  at_k : (load : ℕ) → m ≡ k → get_or (set loads k load) m 0 ≡ load
+  at_k load here = ap (λ j. get_or (set loads k load) j 0) here ∙ get_or-set_same loads k load 0 inside
+
+  pub one_more : get_or (set loads k (get_or loads k 0 + 1)) m 0 ≡ get_or loads m 0 + cond (eqb k m) 1 0
+  one_more =
+      ⊎_elim
+      (λ (here : m ≡ k). omega (arith, at_k (get_or loads k 0 + 1) here, ap (λ j. get_or loads j 0) here, cond-true {A = ℕ} (eqb k m) 1 0 (eq-eqb k m (sym here))))
+      (λ (other : m ≡ k → ⊥). omega (arith, get_or-set_other loads k m (get_or loads k 0 + 1) 0 other, cond-false {A = ℕ} (eqb k m) 1 0 (ne_eqb k m (λ e. other (sym e)))))
+      (cases_eq m k)
+
+  pub one_fewer : 0 < get_or loads k 0 → get_or (set loads k (get_or loads k 0 - 1)) m 0 + cond (eqb k m) 1 0 ≡ get_or loads m 0
+  one_fewer some =
+      ⊎_elim
+      (λ (here : m ≡ k). omega (arith, at_k (get_or loads k 0 - 1) here, ap (λ j. get_or loads j 0) here, cond-true {A = ℕ} (eqb k m) 1 0 (eq-eqb k m (sym here))))
+      (λ (other : m ≡ k → ⊥). omega (arith, get_or-set_other loads k m (get_or loads k 0 - 1) 0 other, cond-false {A = ℕ} (eqb k m) 1 0 (ne_eqb k m (λ e. other (sym e)))))
+      (cases_eq m k)
+
+-- ---- a ticket that does not stand is seated
+
+pub may_few : (table : Table) (seat : Seat) → May table (Some seat) → seat.mill.0 < 64
+may_few table seat may = service_few table seat.mill.0 (and_parts ((meant table).able seat.program.0 seat.mill.0) ((tally_of table).service seat.mill.0) may).1
+
+pub put_counted : (table : Table) (t : ℕ) → t < 1024 → (tally_of table).seat t ≡ None → (seat : Seat) (k : ℕ) → k ≡ seat.mill.0 → k < length table.loads
+    → (m : ℕ) → get_or (set table.loads k (get_or table.loads k 0 + 1)) m 0 ≡ on_mill (set table.seats t (Some seat)) table.service m
+put_counted table t exists away seat k at inside =
+    reseated_counted table t exists (Some seat) (set table.loads k (get_or table.loads k 0 + 1))
+    (λ m. omega (arith, one_more table.loads k inside m, ap (λ stood. share (option_map (λ place. place.mill) stood) m) away, ap (λ j. cond {A = ℕ} (eqb j m) 1 0) at))
+
+-- ---- a standing ticket is taken off
+
+module _ (table : Table) (t : ℕ) (seat : Seat) (stood : Some (place_of seat) ≡ (tally_of table).seat t) where
+  on : placement (tally_of table) t ≡ Some seat.mill.0
+  on = ap (option_map (λ place. place.mill)) (sym stood)
+
+  pub stood_few : seat.mill.0 < 64
+  stood_few = service_few table seat.mill.0 (placed_served table t seat.mill.0 on)
+
+  pub stood_exists : t < 1024
+  stood_exists = placed_few table t seat.mill.0 on
+
+  pub stood_some : 0 < get_or table.loads seat.mill.0 0
+  stood_some =
+      omega (arith, table.counted seat.mill.0, load-some (shop_in (meant table) (tally_of table)) (placement (tally_of table)) t seat.mill.0 stood_exists on)
+
+  pub take_counted : (k : ℕ) → k ≡ seat.mill.0 → k < length table.loads → (m : ℕ) → get_or (set table.loads k (get_or table.loads k 0 - 1)) m 0 ≡ on_mill (set table.seats t None) table.service m
+  take_counted k at inside =
+      let some : 0 < get_or table.loads k 0 = omega (arith, stood_some, ap (λ j. get_or table.loads j 0) at) in
+      reseated_counted table t stood_exists None (set table.loads k (get_or table.loads k 0 - 1))
+      (λ m. omega (arith, one_fewer table.loads k inside m some, ap (λ place. share place m) on, ap (λ j. cond {A = ℕ} (eqb j m) 1 0) at))

@@ -4,7 +4,6 @@ use Rattle.std.specs.Option.{option_map}
 use Rattle.std.proofs.lemmas.List.{get_or_past}
 use Rattle.std.proofs.lemmas.Bool.{cases_lt}
 use Rattle.semimatching.specs.Placements.{SemiMatching, stands_on, load}
-use Rattle.semimatching.proofs.Loads.{load_empty}
 use Rattle.semimatching.proofs.Sums.{count_le}
 use Rattle.table.specs.declared.table.Table.{Table}
 use Rattle.table.specs.Tally.{Place, placement, shop_in}
@@ -13,12 +12,9 @@ use Rattle.table.specs.Held.{meant, tally_of}
 use Rattle.table.proofs.TallyLaws.{able_served}
 
 module _ (table : Table) where
-  -- a mill in service is below the count of mills, which is at most 64
-  pub service_below : (m : ℕ) → (tally_of table).service m ≡ true → m < (meant table).mills
-  service_below m serves = table.below m serves
-
+  -- a mill in service is below 64, since there are at most 64 mills
   pub service_few : (m : ℕ) → (tally_of table).service m ≡ true → m < 64
-  service_few m serves = omega (arith, table.below m serves, table.few)
+  service_few m serves = omega (arith, table.below m serves, table.abilities.lawful.few)
 
   -- no ticket from 1,024 on stands
   pub seat_past : (t : ℕ) → 1024 ≤ t → (tally_of table).seat t ≡ None
@@ -42,10 +38,6 @@ module _ (table : Table) where
   pub semi : SemiMatching (shop_in (meant table) (tally_of table)) (placement (tally_of table))
   semi t m exists on = (service_few m (placed_served t m on), table.able t m on)
 
-  -- no ticket is on a mill from 64 on, and at most 1,024 are on any
-  pub load_past : (m : ℕ) → 64 ≤ m → load (shop_in (meant table) (tally_of table)) (placement (tally_of table)) m ≡ 0
-  load_past m past =
-      load_empty (shop_in (meant table) (tally_of table)) (placement (tally_of table)) m (λ t exists on. omega (arith, service_few m (placed_served t m on)))
-
+  -- at most 1,024 tickets are on a mill
   pub load_few : (m : ℕ) → load (shop_in (meant table) (tally_of table)) (placement (tally_of table)) m ≤ 1024
   load_few m = count_le 1024 (λ t. stands_on (placement (tally_of table) t) m)

@@ -19,7 +19,8 @@ impl Table {
         ensures meaning { meant self.new ≡ meant self.old }
         ensures tally { tally_of self.new ≡ seated (tally_of self.old) ticket.0 (Some (place_of seat)) }
     {
-        self.reseat(ticket, Some(seat));
+        self.seats[usize::from(ticket.0)] = Some(seat);
+        self.loads[usize::from(seat.mill.0)] += 1;
     }
 
     /// Takes a ticket off, if it stands, and tells the seat that it had.
@@ -28,7 +29,10 @@ impl Table {
         ensures tally { tally_of self.new ≡ seated (tally_of self.old) ticket.0 None }
         ensures value { option_map place_of result ≡ (tally_of self.old).seat ticket.0 }
     {
-        self.reseat(ticket, None)
+        let seat = self.seat(ticket)?;
+        self.seats[usize::from(ticket.0)] = None;
+        self.loads[usize::from(seat.mill.0)] -= 1;
+        Some(seat)
     }
 
     /// Moves a standing ticket to another mill that is able for its program and in service.
@@ -37,8 +41,8 @@ impl Table {
         ensures meaning { meant self.new ≡ meant self.old }
         ensures tally { (place : Place) → (tally_of self.old).seat ticket.0 ≡ Some place → tally_of self.new ≡ seated (tally_of self.old) ticket.0 (Some (record { program = place.program; mill = to.0 })) }
     {
-        if let Some(seat) = self.seat(ticket) {
-            self.reseat(ticket, Some(Seat { mill: to, ..seat }));
+        if let Some(seat) = self.take(ticket) {
+            self.put(ticket, Seat { mill: to, ..seat });
         }
     }
 
@@ -48,7 +52,7 @@ impl Table {
         ensures meaning { meant self.new ≡ meant self.old }
         ensures tally { tally_of self.new ≡ serving (tally_of self.old) mill.0 false }
     {
-        self.set_serving(mill, false);
+        self.service.remove(mill.0);
     }
 
     /// Puts a mill of the shop into service.
@@ -57,6 +61,6 @@ impl Table {
         ensures meaning { meant self.new ≡ meant self.old }
         ensures tally { tally_of self.new ≡ serving (tally_of self.old) mill.0 true }
     {
-        self.set_serving(mill, true);
+        self.service.insert(mill.0);
     }
 }

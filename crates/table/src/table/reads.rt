@@ -1,5 +1,5 @@
 //! What a table answers.
-ghost use Rattle.std.specs.Prelude.{◌≡◌, ℕ, ◌≤◌};
+ghost use Rattle.std.specs.Prelude.{◌≡◌, ℕ};
 ghost use Rattle.std.specs.Option.{option_map};
 ghost use Rattle.sets.specs.Sets.{has};
 ghost use Rattle.capability.specs.Copied.{copied};
@@ -9,10 +9,7 @@ ghost use Rattle.table.specs.Seats.{place_of};
 ghost use Rattle.table.specs.Held.{meant, tally_of};
 
 use crate::seat::Seat;
-use crate::table::Table;
-use crate::table::edits::empty_table;
-use crate::table::loads::load_at;
-use crate::table::scans::{count_seats, seat_at};
+use crate::table::{MILLS, TICKETS, Table};
 use capability::Abilities;
 use sets::NumberSet;
 use vocabulary::{Mill, Program, Ticket};
@@ -20,11 +17,15 @@ use vocabulary::{Mill, Program, Ticket};
 impl Table {
     /// The table of a board that is opened: no ticket stands, and every mill below the count is in service.
     pub fn new(abilities: Abilities) -> Table
-        requires { (copied abilities).mills ≤ 64 }
         ensures meaning { meant result ≡ copied abilities }
         ensures tally { tally_of result ≡ opening (copied abilities) }
     {
-        empty_table(abilities, NumberSet::below(abilities.mills()))
+        Table {
+            abilities,
+            service: NumberSet::below(abilities.mills()),
+            seats: [None; TICKETS],
+            loads: [0; MILLS],
+        }
     }
 
     /// How many mills the shop has.
@@ -52,20 +53,20 @@ impl Table {
     pub fn seat(&self, ticket: Ticket) -> Option<Seat>
         ensures { option_map place_of result ≡ (tally_of self.now).seat ticket.0 }
     {
-        seat_at(&self.seats, usize::from(ticket.0))
+        self.seats.get(usize::from(ticket.0)).copied().flatten()
     }
 
     /// The number of tickets on a mill.
     pub fn load(&self, mill: Mill) -> u16
         ensures { result ≡ load (shop_in (meant self.now) (tally_of self.now)) (placement (tally_of self.now)) mill.0 }
     {
-        load_at(&self.loads, usize::from(mill.0))
+        self.loads.get(usize::from(mill.0)).copied().unwrap_or(0)
     }
 
     /// How many tickets stand.
     pub fn standing(&self) -> u16
         ensures { result ≡ standing (tally_of self.now) }
     {
-        count_seats(&self.seats)
+        self.seats.iter().filter(|seat| seat.is_some()).count() as u16
     }
 }
