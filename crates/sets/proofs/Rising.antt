@@ -6,6 +6,7 @@ use Rattle.std.proofs.lemmas.List.FromFn.{length-range_with_len, map-range_with_
 use Rattle.std.proofs.lemmas.List.Elements.{filter-append}
 use Rattle.std.proofs.lemmas.List.{map-id, nil_from_length, length-append}
 use Rattle.std.proofs.lemmas.List.Sums.{length-filter, count_by-le-length}
+use Rattle.std.proofs.Math.Bool.{or_assoc}
 use Rattle.std.proofs.lemmas.Bool.{false≢true, cases_eq, lt-ltb, eqb-true, or_cases, and_from, eq-eqb, ne_eqb, or_from, or_left, and_right, cond-true, cond-false}
 use Rattle.std.proofs.lemmas.Bool.Decides.{nat_tests}
 use Rattle.sets.specs.Sets.{numbers, member, Rises}
@@ -46,10 +47,6 @@ numbers-none f n h = numbers_same f (λ _. false) n h ∙ kept_none (range_with_
 pub member-append : (k : ℕ) (xs ys : List ℕ) → member k (xs ++ ys) ≡ (member k xs || member k ys)
 member-append k [] ys = refl
 member-append k (x ∷ xs) ys = ap (λ t. eqb k x || t) (member-append k xs ys) ∙ sym (or_assoc (eqb k x) (member k xs) (member k ys))
-  where
-    or_assoc : (a b c : Bool) → (a || b || c) ≡ (a || (b || c))
-    or_assoc true b c = refl
-    or_assoc false b c = refl
 
 pub member-numbers : (f : ℕ → Bool) (k n : ℕ) → member k (numbers f n) ≡ (ltb k n && f k)
 unfolding numbers

@@ -7,6 +7,7 @@ ghost use Rattle.std.specs.Iterator.{at_most};
 mod tests;
 
 /// A set of the numbers 0 to 63, as of the mills of a shop or of the tools of a magazine.
+// No model: `==` and `Copy` go by the bits, and a set of numbers would have to give them back.
 #[derive(Clone, Copy, PartialEq, Eq, Debug)]
 pub struct NumberSet {
     bits: u64,

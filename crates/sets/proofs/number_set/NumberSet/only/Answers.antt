@@ -1,4 +1,4 @@
--- One bit is a power of two; from 64 on there is none.
+-- One bit is a power of two.
 use Rattle.std.proofs.Common.{◌&&◌, eqb, sym, ap, ◌∙◌}
 use Rattle.std.proofs.lemmas.Nat.{one_shl}
 use Rattle.std.proofs.lemmas.Bool.{lt-ltb}
