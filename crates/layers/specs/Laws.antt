@@ -2,7 +2,8 @@
 use Rattle.std.specs.Prelude.{not, List, nat_lt}
 use Rattle.std.proofs.lemmas.Bool.{ltb-true, and_parts}
 use Rattle.capability.specs.Meaning.{Meaning, Lawful}
-use Rattle.layers.specs.declared.pairs.Pair.{Pair}
+use Rattle.layers.specs.declared.aliases.Entry.{Entry}
+use Rattle.layers.specs.declared.strikes.Pair.{Pair}
 use Rattle.layers.specs.Strikes.{struck, without}
 use Rattle.layers.specs.Aliases.{alias_of, cutting_as}
 
@@ -13,7 +14,7 @@ without_lawful pairs below law = record {
   mill = λ p m able. law.mill p m (and_parts (below.able p m) (not (struck pairs p m)) able).0;
 }
 
-pub cutting_as_lawful : (entries : List Pair) (below : Meaning) → Lawful below → Lawful (cutting_as entries below)
+pub cutting_as_lawful : (entries : List Entry) (below : Meaning) → Lawful below → Lawful (cutting_as entries below)
 cutting_as_lawful entries below law = record {
   few = law.few;
   program = λ p m able. ltb-true p 256 (and_parts (nat_lt p 256) (below.able (alias_of entries p) m) able).0;
