@@ -9,7 +9,7 @@ use capability::Source;
 use vocabulary::{Mill, Program, Refusal};
 
 /// A program, and the one that it is cut as.
-#[derive(Clone, Copy, Default, PartialEq, Eq, Debug)]
+#[derive(Clone, Copy, Default)]
 pub(crate) struct Entry {
     program: Program,
     cut_as: Program,

@@ -9,7 +9,7 @@ use capability::Source;
 use vocabulary::{Mill, Program, Refusal};
 
 /// A mill that is struck for a program.
-#[derive(Clone, Copy, Default, PartialEq, Eq, Debug)]
+#[derive(Clone, Copy, Default, PartialEq, Eq)]
 pub(crate) struct Pair {
     program: Program,
     mill: Mill,

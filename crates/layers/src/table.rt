@@ -10,6 +10,7 @@ use vocabulary::Refusal;
 const MOST: usize = 32;
 
 /// A table of at most 32 entries.
+// No generic layer around it: it would make the entries public, and save one constructor.
 pub(crate) type Table<T> = ArrayVec<T, MOST>;
 
 /// Adds an entry behind the others; a table of 32 refuses it, and stays as it is.
