@@ -5,7 +5,8 @@ use Rattle.vocabulary.specs.declared.refusal.Refusal.{Refusal}
 use Rattle.capability.specs.Meaning.{Meaning}
 use Rattle.layers.specs.Aliases.{after_alias}
 use Rattle.layers.specs.Strikes.{after_strike}
-use Rattle.layers.specs.declared.pairs.Pair.{Pair}
+use Rattle.layers.specs.declared.aliases.Entry.{Entry}
+use Rattle.layers.specs.declared.strikes.Pair.{Pair}
 use Rattle.table.specs.Tally.{Tally, opening}
 use Rattle.board.specs.Histories.{RunTurn, HasRun}
 use Rattle.board.specs.declared.call.Call.{Call}
@@ -43,7 +44,7 @@ module _ (source : Meaning) (calls : List Call) where
       subst (λ calls. Leaves source (layers_of state) calls after) (sym (append-nil calls))
       (ap layers_of (sym back.unchanged), subst (Runs source calls) (sym back.unchanged) runs)
 
-  module _ (strikes aliases : List Pair) where
+  module _ (strikes : List Pair) (aliases : List Entry) where
     abbrev on : Opened → State
     on opened = record { strikes = strikes; aliases = aliases; board = Some opened }
 
@@ -100,7 +101,7 @@ module _ (source : Meaning) (calls : List Call) where
         subst (Leaves source (record { strikes = pairs; aliases = aliases; closed = false }) (calls ++ [])) (sym done.0) (refl, append-nil calls ∙ none)
     leaves_struck (Err refusal) after reply none back = leaves_refused filling refusal after reply none back
 
-    leaves_aliased : (result : Result (List Pair) Refusal) (after : State) (reply : Reply) → calls ≡ [] → AliasedBy filling result after reply
+    leaves_aliased : (result : Result (List Entry) Refusal) (after : State) (reply : Reply) → calls ≡ [] → AliasedBy filling result after reply
         → Leaves source (record { strikes = strikes; aliases = taken_or aliases result; closed = false }) (calls ++ []) after
     leaves_aliased (Ok entries) after reply none done =
         subst (Leaves source (record { strikes = strikes; aliases = entries; closed = false }) (calls ++ [])) (sym done.0) (refl, append-nil calls ∙ none)

@@ -5,7 +5,8 @@ use Rattle.vocabulary.specs.declared.refusal.Refusal.{Refusal}
 use Rattle.capability.specs.Meaning.{Meaning}
 use Rattle.layers.specs.Aliases.{after_alias}
 use Rattle.layers.specs.Strikes.{after_strike}
-use Rattle.layers.specs.declared.pairs.Pair.{Pair}
+use Rattle.layers.specs.declared.aliases.Entry.{Entry}
+use Rattle.layers.specs.declared.strikes.Pair.{Pair}
 use Rattle.table.specs.Tally.{Tally, placement}
 use Rattle.table.proofs.TallyLaws.{standing_few}
 use Rattle.board.specs.Outcomes.{Outcome}
@@ -51,7 +52,7 @@ struck_few : (state : State) (result : Result (List Pair) Refusal) (after : Stat
 struck_few state (Ok pairs) after reply done = subst Few (sym done.1) (omega arith)
 struck_few state (Err refusal) after reply back = refused_few state refusal after reply back
 
-aliased_few : (state : State) (result : Result (List Pair) Refusal) (after : State) (reply : Reply) → AliasedBy state result after reply → Few reply
+aliased_few : (state : State) (result : Result (List Entry) Refusal) (after : State) (reply : Reply) → AliasedBy state result after reply → Few reply
 aliased_few state (Ok pairs) after reply done = subst Few (sym done.1) (omega arith)
 aliased_few state (Err refusal) after reply back = refused_few state refusal after reply back
 

@@ -6,7 +6,8 @@ use Rattle.vocabulary.specs.declared.refusal.Refusal.TheVariants.{NotStanding}
 use Rattle.capability.specs.Meaning.{Meaning}
 use Rattle.layers.specs.Aliases.{after_alias}
 use Rattle.layers.specs.Strikes.{after_strike}
-use Rattle.layers.specs.declared.pairs.Pair.{Pair}
+use Rattle.layers.specs.declared.aliases.Entry.{Entry}
+use Rattle.layers.specs.declared.strikes.Pair.{Pair}
 use Rattle.table.specs.Tally.{Tally, placement, opening}
 use Rattle.board.specs.Reports.{Reported}
 use Rattle.board.specs.Outcomes.{Outcome}
@@ -59,7 +60,7 @@ StruckBy before (Ok pairs) after reply = (after ≡ record { strikes = pairs; al
 StruckBy before (Err refusal) after reply = LineRefused before refusal after reply
 
 -- the aliases after an alias
-abbrev pub AliasedBy : State → Result (List Pair) Refusal → State → Reply → Type 0
+abbrev pub AliasedBy : State → Result (List Entry) Refusal → State → Reply → Type 0
 AliasedBy before (Ok entries) after reply = (after ≡ record { strikes = before.strikes; aliases = entries; board = before.board }) × (reply ≡ Reply.Aliased)
 AliasedBy before (Err refusal) after reply = LineRefused before refusal after reply
 

@@ -4,7 +4,8 @@ use Rattle.vocabulary.specs.declared.refusal.Refusal.{Refusal}
 use Rattle.capability.specs.Meaning.{Meaning}
 use Rattle.layers.specs.Aliases.{after_alias}
 use Rattle.layers.specs.Strikes.{after_strike}
-use Rattle.layers.specs.declared.pairs.Pair.{Pair}
+use Rattle.layers.specs.declared.aliases.Entry.{Entry}
+use Rattle.layers.specs.declared.strikes.Pair.{Pair}
 use Rattle.board.specs.Histories.{RunTurn, HasRun}
 use Rattle.board.specs.declared.call.Call.{Call}
 use Rattle.wire.specs.Commands.{board_command_in, setup_command_in}
@@ -19,14 +20,14 @@ use Rattle.console.specs.States.{Opened, State, pile_meaning}
 -- the layers that lines have filled, and whether a command to the board has come
 pub record Layers : Type 0 where
   pub strikes : List Pair
-  pub aliases : List Pair
+  pub aliases : List Entry
   pub closed : Bool
 
 abbrev pub unfilled : Layers
 unfilled = record { strikes = []; aliases = []; closed = false }
 
 -- a table after an entry: refused entries leave it
-abbrev pub taken_or : List Pair → Result (List Pair) Refusal → List Pair
+abbrev pub taken_or : {T : Type 0} → List T → Result (List T) Refusal → List T
 taken_or before (Ok after) = after
 taken_or before (Err refusal) = before
 

@@ -4,7 +4,8 @@ use Rattle.capability.specs.Meaning.{Meaning}
 use Rattle.layers.specs.Aliases.{cutting_as}
 use Rattle.layers.specs.Held.{held}
 use Rattle.layers.specs.Strikes.{without}
-use Rattle.layers.specs.declared.pairs.Pair.{Pair}
+use Rattle.layers.specs.declared.aliases.Entry.{Entry}
+use Rattle.layers.specs.declared.strikes.Pair.{Pair}
 use Rattle.table.specs.Tally.{Tally}
 use Rattle.board.specs.Boards.{meant_by, tally_on}
 use Rattle.console.specs.declared.console.Console.{Console}
@@ -18,7 +19,7 @@ pub record Opened : Type 0 where
 -- the pairs that are struck, the programs that are cut as others, and the board once it is open
 pub record State : Type 0 where
   pub strikes : List Pair
-  pub aliases : List Pair
+  pub aliases : List Entry
   pub board : Option Opened
 
 -- a console that nothing was asked of
@@ -26,7 +27,7 @@ abbrev pub fresh : State
 fresh = record { strikes = []; aliases = []; board = None }
 
 -- what strikes over aliases mean over a source of this meaning
-abbrev pub pile_meaning : Meaning → List Pair → List Pair → Meaning
+abbrev pub pile_meaning : Meaning → List Pair → List Entry → Meaning
 pile_meaning below strikes aliases = without strikes (cutting_as aliases below)
 
 abbrev pub state_of : {S : Type 0} → Console S → State

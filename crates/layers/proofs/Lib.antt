@@ -1,3 +1,1 @@
-pub mod TableSteps
 pub mod AliasSteps
-pub mod StrikeSteps

@@ -1,7 +1,6 @@
--- The pairs that a table holds, in the order in which they came.
-use Rattle.std.specs.Prelude.{List, take}
-use Rattle.layers.specs.declared.pairs.Pair.{Pair}
-use Rattle.layers.specs.declared.pairs.Pairs.{Pairs}
+-- The entries that a table holds, in the order in which they came.
+use Rattle.std.specs.Prelude.{List}
+use Rattle.arrayvec.specs.ArrayVec.{ArrayVec}
 
-abbrev pub held : Pairs → List Pair
-held table = take table.len table.pairs
+abbrev pub held : {T : Type 0} → ArrayVec T → List T
+held table = table.items

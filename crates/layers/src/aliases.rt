@@ -4,17 +4,23 @@ ghost use Rattle.layers.specs.Held.{held};
 ghost use Rattle.layers.specs.Aliases.{alias_of, after_alias, Alias, cutting_as};
 ghost use Rattle.layers.specs.Laws.{cutting_as_lawful};
 
-use crate::pairs::find::find;
-use crate::pairs::{Key, Pair, Pairs};
+use crate::table::{Table, add};
 use capability::Source;
 use vocabulary::{Mill, Program, Refusal};
+
+/// A program, and the one that it is cut as.
+#[derive(Clone, Copy, Default)]
+pub(crate) struct Entry {
+    program: Program,
+    cut_as: Program,
+}
 
 /// A source that answers for some programs as another, which it holds, answers for their aliases. At most 32 programs have one.
 /// A program without an alias is itself, and an alias of an alias is not followed.
 #[derive(Drop)]
 pub struct Aliases<S> {
     source: S,
-    table: Pairs,
+    table: Table<Entry>,
 }
 
 impl<S> Aliases<S> {
@@ -25,7 +31,7 @@ impl<S> Aliases<S> {
     {
         Aliases {
             source,
-            table: Pairs::new(),
+            table: Table::new(),
         }
     }
 
@@ -35,35 +41,24 @@ impl<S> Aliases<S> {
         ensures below { self.new.source ≡ self.old.source }
         ensures entries { MatchResult result (λ _. Alias program.0 cut_as.0 (held self.old.table) (held self.new.table)) (λ e. (after_alias program.0 cut_as.0 (held self.old.table) ≡ Err e) × (held self.new.table ≡ held self.old.table)) }
     {
-        put_alias(&mut self.table, program, cut_as)
-    }
-}
-
-/// Puts an entry into a table, in the place of the one that the program has.
-fn put_alias(table: &mut Pairs, program: Program, cut_as: Program) -> Result<(), Refusal>
-    ensures { MatchResult result (λ _. Alias program.0 cut_as.0 (held table.old) (held table.new)) (λ e. (after_alias program.0 cut_as.0 (held table.old) ≡ Err e) × (held table.new ≡ held table.old)) }
-{
-    let entry = Pair {
-        program: program.0,
-        other: cut_as.0,
-    };
-    match find(table.held(), Key::Program(program.0)) {
-        Some(place) => {
-            table.replace(place, entry);
-            Ok(())
+        let entry = Entry { program, cut_as };
+        match self.table.iter().position(|held| held.program == program) {
+            Some(place) => {
+                self.table[place] = entry;
+                Ok(())
+            }
+            None => add(&mut self.table, entry),
         }
-        None => table.add(entry),
     }
-}
 
-/// The program that a program is cut as.
-fn alias_of(table: &Pairs, program: Program) -> Program
-    ensures { result.0 ≡ alias_of (held table.now) program.0 }
-{
-    let entries = table.held();
-    match find(entries, Key::Program(program.0)) {
-        Some(place) => Program(entries[place].other),
-        None => program,
+    /// The program that a program is cut as.
+    fn alias_of(&self, program: Program) -> Program
+        ensures { result.0 ≡ alias_of (held self.now.table) program.0 }
+    {
+        self.table
+            .iter()
+            .find(|entry| entry.program == program)
+            .map_or(program, |entry| entry.cut_as)
     }
 }
 
@@ -77,6 +72,6 @@ impl<S: Source> Source for Aliases<S> {
     }
 
     fn able(&self, program: Program, mill: Mill) -> bool {
-        self.source.able(alias_of(&self.table, program), mill)
+        self.source.able(self.alias_of(program), mill)
     }
 }

@@ -2,9 +2,9 @@
 #![tactic(auto)]
 
 pub mod aliases;
-mod pairs;
 pub mod piles;
 pub mod strikes;
+mod table;
 
 pub use aliases::Aliases;
 pub use piles::{able_aliased_over_struck, able_struck_over_aliased};

@@ -1,19 +1,25 @@
 //! Strikes: a layer over a source that takes pairs of a program and a mill out of it.
 ghost use Rattle.std.specs.Prelude.{◌≡◌, [], Err, MatchResult};
 ghost use Rattle.layers.specs.Held.{held};
-ghost use Rattle.layers.specs.Strikes.{struck, after_strike, Strike, without};
+ghost use Rattle.layers.specs.Strikes.{after_strike, Strike, without};
 ghost use Rattle.layers.specs.Laws.{without_lawful};
 
-use crate::pairs::find::find;
-use crate::pairs::{Key, Pair, Pairs};
+use crate::table::{Table, add};
 use capability::Source;
 use vocabulary::{Mill, Program, Refusal};
+
+/// A mill that is struck for a program.
+#[derive(Clone, Copy, Default, PartialEq, Eq)]
+pub(crate) struct Pair {
+    program: Program,
+    mill: Mill,
+}
 
 /// A source without some of the pairs of another, which it holds. At most 32 pairs are struck.
 #[derive(Drop)]
 pub struct Strikes<S> {
     pub(crate) source: S,
-    table: Pairs,
+    table: Table<Pair>,
 }
 
 impl<S> Strikes<S> {
@@ -24,7 +30,7 @@ impl<S> Strikes<S> {
     {
         Strikes {
             source,
-            table: Pairs::new(),
+            table: Table::new(),
         }
     }
 
@@ -34,28 +40,12 @@ impl<S> Strikes<S> {
         ensures below { self.new.source ≡ self.old.source }
         ensures pairs { MatchResult result (λ _. Strike program.0 mill.0 (held self.old.table) (held self.new.table)) (λ e. (after_strike program.0 mill.0 (held self.old.table) ≡ Err e) × (held self.new.table ≡ held self.old.table)) }
     {
-        put_strike(&mut self.table, program, mill)
+        let pair = Pair { program, mill };
+        if self.table.contains(&pair) {
+            return Ok(());
+        }
+        add(&mut self.table, pair)
     }
-}
-
-/// Puts a struck pair into a table that lacks it.
-fn put_strike(table: &mut Pairs, program: Program, mill: Mill) -> Result<(), Refusal>
-    ensures { MatchResult result (λ _. Strike program.0 mill.0 (held table.old) (held table.new)) (λ e. (after_strike program.0 mill.0 (held table.old) ≡ Err e) × (held table.new ≡ held table.old)) }
-{
-    if is_struck(table, program, mill) {
-        return Ok(());
-    }
-    table.add(Pair {
-        program: program.0,
-        other: mill.0,
-    })
-}
-
-/// Whether a mill is struck for a program.
-fn is_struck(table: &Pairs, program: Program, mill: Mill) -> bool
-    ensures { result ≡ struck (held table.now) program.0 mill.0 }
-{
-    find(table.held(), Key::Whole(program.0, mill.0)).is_some()
 }
 
 impl<S: Source> Source for Strikes<S> {
@@ -68,6 +58,6 @@ impl<S: Source> Source for Strikes<S> {
     }
 
     fn able(&self, program: Program, mill: Mill) -> bool {
-        self.source.able(program, mill) && !is_struck(&self.table, program, mill)
+        self.source.able(program, mill) && !self.table.contains(&Pair { program, mill })
     }
 }

@@ -1,10 +1,10 @@
 -- What a tool source means keeps the law of a source.
-use Rattle.std.specs.Prelude.{◌≡◌, ℕ, ◌≤◌, true, ◌&&◌, List, length, nat_lt, slice_index_or, vec_items}
+use Rattle.std.specs.Prelude.{◌≤◌, List, length, vec_items}
 use Rattle.std.proofs.Common.{arith}
 use Rattle.std.proofs.lemmas.List.{length-map}
-use Rattle.std.proofs.lemmas.Bool.{ltb-true, and_parts}
+use Rattle.std.proofs.lemmas.Bool.Decides.{nat_tests}
 use Rattle.capability.specs.Meaning.{Lawful}
-use Rattle.tools.specs.Tools.{can_cut, no_mill, no_program, table_meaning}
+use Rattle.tools.specs.Tools.{table_meaning}
 use Rattle.tools.specs.Stored.{row_of, rows_of}
 use Rattle.tools.specs.ToolSources.{source_meaning}
 use Rattle.tools.specs.declared.tools.MillRow.{MillRow}
@@ -15,15 +15,9 @@ use Rattle.tools.specs.declared.tools.ToolSource.{ToolSource}
 pub table_lawful : (mills : List MillRow) (programs : List ProgramRow) → length mills ≤ 64 → Lawful (table_meaning mills programs)
 table_lawful mills programs few = record {
   few = few;
-  program = λ p m able. ltb-true p 256 (row_of_program p m able).0;
-  mill = λ p m able. ltb-true m (length mills) (and_parts (nat_lt p 256 && nat_lt p (length programs)) (nat_lt m (length mills)) (tables p m able)).1;
+  program = λ p m able. grind (arith, nat_tests);
+  mill = λ p m able. grind (arith, nat_tests);
 }
-  where
-    tables : (p m : ℕ) → (table_meaning mills programs).able p m ≡ true → (nat_lt p 256 && nat_lt p (length programs) && nat_lt m (length mills)) ≡ true
-    tables p m able = (and_parts (nat_lt p 256 && nat_lt p (length programs) && nat_lt m (length mills)) (can_cut (slice_index_or mills m no_mill) (slice_index_or programs p no_program)) able).0
-
-    row_of_program : (p m : ℕ) → (table_meaning mills programs).able p m ≡ true → (nat_lt p 256 ≡ true) × (nat_lt p (length programs) ≡ true)
-    row_of_program p m able = and_parts (nat_lt p 256) (nat_lt p (length programs)) (and_parts (nat_lt p 256 && nat_lt p (length programs)) (nat_lt m (length mills)) (tables p m able)).0
 
 pub source_lawful : (source : ToolSource) → Lawful (source_meaning source)
 source_lawful source =

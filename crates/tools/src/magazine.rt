@@ -20,6 +20,7 @@ pub struct Magazine {
 
 impl Magazine {
     /// The magazine of a row of the mill table; one of more than 20 tools is refused, with their number.
+    // No `TryFrom`: a magazine is one part of a row.
     pub fn of(row: &MillRow) -> Result<Magazine, Refusal>
         ensures { MatchResult result (λ magazine. (magazine_fault row.now ≡ None) × ((k : ℕ) → has magazine.tools k ≡ holds row.now.tools k)) (λ e. magazine_fault row.now ≡ Some e) }
     {

@@ -1,6 +1,6 @@
 //! The tool rule: the tables of a shop, and the source that answers from them.
 ghost use Rattle.std.specs.Prelude.{◌≡◌, ◌≤◌, [], IfOk, if◌then◌else◌, Some, None, vec_len, MatchResult};
-ghost use Rattle.tools.specs.Tools.{magazine_fault, first_fault, fits as it_fits, can_cut, sound_mills};
+ghost use Rattle.tools.specs.Tools.{magazine_fault, first_fault, fits, can_cut, sound_mills};
 ghost use Rattle.tools.specs.Stored.{row_of, rows_of};
 
 use crate::magazine::Magazine;
@@ -18,9 +18,19 @@ pub struct Extent {
     pub z: u16,
 }
 
+impl Extent {
+    /// Whether a blank of these lengths is no longer than the travel on any axis.
+    fn fits(self, travel: Extent) -> bool
+        ensures { result ≡ fits self travel }
+    {
+        self.x <= travel.x && self.y <= travel.y && self.z <= travel.z
+    }
+}
+
 /// A row of the mill table: the tools in a mill's magazine, bit 0 for tool 0, and the travel of its axes.
 #[derive(Clone, Copy)]
 pub struct MillRow {
+    // Bits, and no set: programs write their tables as constants, and a constant may call no function.
     pub tools: u64,
     pub travel: Extent,
 }
@@ -28,19 +38,13 @@ pub struct MillRow {
 /// A row of the program table: the tools that a program needs, bit 0 for tool 0, and the lengths of its blank.
 #[derive(Clone, Copy)]
 pub struct ProgramRow {
+    // Bits, as in a row of the mill table.
     pub tools: u64,
     pub blank: Extent,
 }
 
 /// Refuses the first magazine of a mill table that holds more than 20 tools.
 pub fn check_mills(rows: &[MillRow]) -> Result<(), Refusal>
-    ensures { MatchResult result (λ _. first_fault rows.now ≡ None) (λ e. first_fault rows.now ≡ Some e) }
-{
-    check_each(rows)
-}
-
-/// Checks one magazine after the other.
-fn check_each(rows: &[MillRow]) -> Result<(), Refusal>
     ensures { MatchResult result (λ _. first_fault rows.now ≡ None) (λ e. first_fault rows.now ≡ Some e) }
 {
     for row in rows {
@@ -59,47 +63,42 @@ struct ToolMill {
     travel: Extent,
 }
 
-impl ToolMill {
-    /// The mill of a row of the mill table.
-    fn of(row: MillRow) -> Result<ToolMill, Refusal>
-        ensures { MatchResult result (λ mill. (magazine_fault row ≡ None) × (row_of mill ≡ row)) (λ e. magazine_fault row ≡ Some e) }
-    {
-        let magazine = Magazine::of(&row)?;
+impl TryFrom<MillRow> for ToolMill {
+    type Error = Refusal;
+
+    ghost try_from_gives = { λ row r. MatchResult r (λ mill. (magazine_fault row ≡ None) × (row_of mill ≡ row)) (λ e. magazine_fault row ≡ Some e) };
+
+    fn try_from(row: MillRow) -> Result<ToolMill, Refusal> {
         Ok(ToolMill {
-            magazine,
+            magazine: Magazine::of(&row)?,
             travel: row.travel,
         })
     }
+}
 
+impl ToolMill {
     /// Whether the mill can cut a program.
     fn can_cut(self, program: ProgramRow) -> bool
         ensures { result ≡ can_cut (row_of self) program }
     {
         self.magazine.has_all(NumberSet::from_bits(program.tools))
-            && fits(program.blank, self.travel)
+            && program.blank.fits(self.travel)
     }
-}
-
-/// Whether a blank is no longer than the travel on any axis.
-fn fits(blank: Extent, travel: Extent) -> bool
-    ensures { result ≡ it_fits blank travel }
-{
-    blank.x <= travel.x && blank.y <= travel.y && blank.z <= travel.z
 }
 
 /// The mills of a table, checked once: none where a magazine is faulty, or where there are more than 64 mills.
-fn checked_mills(heap: Global, rows: &[MillRow]) -> Result<Vec<ToolMill>, AllocError>
-    ensures { IfOk result (λ v. rows_of v.items ≡ (if sound_mills rows.now then rows.now else [])) }
+fn checked_mills(heap: Global, table: &[MillRow]) -> Result<Vec<ToolMill>, AllocError>
+    ensures { IfOk result (λ v. rows_of v.items ≡ (if sound_mills table.now then table.now else [])) }
 {
     let mut mills = Vec::new(heap);
-    if rows.len() > MOST_MILLS {
+    if table.len() > MOST_MILLS {
         return Ok(mills);
     }
-    for row in rows {
-        match ToolMill::of(*row) {
-            Ok(mill) => mills.push(mill)?,
-            Err(_) => return Ok(Vec::new(heap)),
-        }
+    for row in table {
+        let Ok(mill) = ToolMill::try_from(*row) else {
+            return Ok(Vec::new(heap));
+        };
+        mills.push(mill)?;
     }
     Ok(mills)
 }

@@ -1,6 +1,8 @@
-use Rattle.std.proofs.Common.{vec_items}
-use Rattle.tools.proofs.ToolSteps.{StoredTo}
+use Rattle.std.proofs.Common.{◌≡◌, true, take}
+use Rattle.std.specs.List.{list_all}
+use Rattle.tools.specs.Tools.{few_tools}
+use Rattle.tools.specs.Stored.{rows_of}
 use Rattle.tools.proofs.tools.checked_mills.Given as goal
 
 abbrev pub invariant-loop-row : goal.invariant-loop-row
-invariant-loop-row l = StoredTo l.rows l.row-index (vec_items l.mills)
+invariant-loop-row l = record { stored : rows_of l.mills.items ≡ take l.row-index l.table; few : list_all few_tools (take l.row-index l.table) ≡ true }
