@@ -5,6 +5,7 @@ pub mod Frames
 pub mod Sheets
 pub mod Written
 pub mod Content
+pub mod Reading
 pub mod Front
 pub mod Area
 pub mod Copies
