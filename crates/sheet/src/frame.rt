@@ -3,7 +3,7 @@ ghost use Rattle.std.specs.Prelude.{◌≡◌, ◌&&◌, Some, Err, MatchResult,
 ghost use Rattle.std.specs.Option.{option_map};
 ghost use Rattle.sheet.specs.Digits.{bytes_of};
 ghost use Rattle.sheet.specs.Lines.{lines_of};
-ghost use Rattle.sheet.specs.Sheets.{and_then, item_of, rising, first_item};
+ghost use Rattle.sheet.specs.Sheets.{and_then, item_of, rising, count_due, first_item};
 ghost use Rattle.sheet.specs.Content.{content, item, known, listed, Came};
 
 use crate::digits::{Bytes, byte_at};
@@ -56,6 +56,17 @@ pub(crate) fn first_sheet_frame(text: &[u8], line: u16) -> Result<(SheetFrame<'_
     let (raw, rest) = first_frame(text, line)?;
     let frame = sheet_frame(raw).ok_or(Refusal::NotDue { line })?;
     Ok((frame, rest))
+}
+
+/// The count of mills, which is due first.
+pub(crate) fn count_due(frame: SheetFrame<'_>, line: u16) -> Result<u8, Refusal>
+    ensures { result ≡ count_due line (Some (item frame.entry)) }
+{
+    match frame {
+        SheetFrame::Mills(mills @ 1..=64) => Ok(mills),
+        SheetFrame::Mills(_) => Err(Refusal::WrongValue { line }),
+        SheetFrame::Program(_) | SheetFrame::End => Err(Refusal::NotDue { line }),
+    }
 }
 
 impl Entry<'_> {

@@ -5,7 +5,7 @@ ghost use Rattle.capability.specs.Meaning.{nothing};
 ghost use Rattle.sheet.specs.Sheets.{sheet_of};
 ghost use Rattle.sheet.specs.Content.{listed};
 
-use crate::frame::{Entry, SheetFrame, first_sheet_frame};
+use crate::frame::{Entry, SheetFrame, count_due, first_sheet_frame};
 use vocabulary::Refusal;
 
 /// A sheet that is being read: what is left of its text, and what may come next in it.
@@ -31,16 +31,13 @@ impl<'a> SheetReader<'a> {
         ensures { MatchResult result (Opened text.now) (λ e. sheet_of text.now ≡ Err e) }
     {
         let (frame, rest) = first_sheet_frame(text, 1)?;
-        match frame {
-            SheetFrame::Mills(mills @ 1..=64) => Ok(SheetReader {
-                rest,
-                line: 2,
-                floor: 0,
-                mills,
-            }),
-            SheetFrame::Mills(_) => Err(Refusal::WrongValue { line: 1 }),
-            SheetFrame::Program(_) | SheetFrame::End => Err(Refusal::NotDue { line: 1 }),
-        }
+        let mills = count_due(frame, 1)?;
+        Ok(SheetReader {
+            rest,
+            line: 2,
+            floor: 0,
+            mills,
+        })
     }
 
     /// Takes the next entry, or nothing at the end of the sheet.
