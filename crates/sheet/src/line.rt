@@ -1,5 +1,5 @@
 //! The line reader: takes a frame from the front of a text, and tells the faults of a single line.
-ghost use Rattle.std.specs.Prelude.{◌≡◌, ℕ, ◌<◌, ◌≤◌, min, List, length, Ok, Err, MatchOption, MatchResult, ◌≢◌, slice_index};
+ghost use Rattle.std.specs.Prelude.{◌≡◌, ℕ, ◌<◌, min, length, Ok, Err, MatchOption, MatchResult, ◌≢◌, slice_index};
 ghost use Rattle.vocabulary.specs.declared.refusal.Refusal.TheVariants.{BadLine};
 ghost use Rattle.sheet.specs.Lines.{lines_of};
 ghost use Rattle.sheet.specs.Frames.{well_formed, frame_in, first_frame, only_frame};

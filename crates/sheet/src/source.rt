@@ -1,5 +1,5 @@
 //! The sheet source: a shop's text, kept for reading only, that answers for the shop's abilities.
-ghost use Rattle.std.specs.Prelude.{◌≡◌, ℕ, ◌+◌, ◌*◌, ◌≤◌, true, length, is_ok, slice_index};
+ghost use Rattle.std.specs.Prelude.{◌≡◌, ◌+◌, ◌*◌, ◌≤◌, true, length, is_ok, slice_index};
 ghost use Rattle.capability.specs.Meaning.{Lawful};
 ghost use Rattle.sheet.specs.Front.{FrontEntry};
 ghost use Rattle.sheet.specs.Digits.{bytes_of};

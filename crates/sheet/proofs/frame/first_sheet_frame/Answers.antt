@@ -5,9 +5,6 @@ use Rattle.sheet.specs.Sheets.{and_then}
 use Rattle.sheet.proofs.ItemSteps.{item_fault, item_over}
 use Rattle.sheet.proofs.frame.first_sheet_frame.Goals as goal
 
-pub returns-then-is_empty : goal.returns-then-is_empty
-returns-then-is_empty c = ap (λ r. and_then r (known c.args.line)) (item_over c.args.line c.args.text.now (sym c.if-is_empty.ensures))
-
 pub returns-in_err-raw : goal.returns-in_err-raw
 returns-in_err-raw c =
     let p = err_from_is_err_and c.from_residual.result c.from_residual.ensures.1 in

@@ -21,13 +21,6 @@ front_entry-requires c =
     entry_long _ c.args.program.0 c.loop-rest.rest.now
     (entry_at c.args.text.now c.requires c.args.program.0 (search rules) c.loop-rest.rest.now c.loop-rest.invariant.1 (sym c.byte_at.ensures ∙ c.loop-rest-test.true ∙ c.from.ensures))
 
-pub loop-rest-smaller : goal.loop-rest-smaller
-loop-rest-smaller c =
-    let long =
-    entry_long _ c.args.program.0 c.loop-rest.rest.now
-    (entry_at c.args.text.now c.requires c.args.program.0 (search rules) c.loop-rest.rest.now c.loop-rest.invariant.1 (sym c.byte_at.ensures ∙ c.loop-rest-test.true ∙ c.from.ensures)) in
-    omega (arith, ap length c.front_entry.ensures.rest_is, length-drop (2 * get_or (bytes_of c.loop-rest.rest.now) 1 0 + 7) c.loop-rest.rest.now)
-
 pub loop-rest-preserved : goal.loop-rest-preserved
 loop-rest-preserved c =
     at_next c.args.text.now c.requires c.args.program.0 (search rules) c.loop-rest.rest.now c.loop-rest.invariant.1 (sym c.byte_at.ensures ∙ c.loop-rest-test.true ∙ c.from.ensures)
