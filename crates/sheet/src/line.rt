@@ -23,7 +23,7 @@ fn well_formed(characters: &[u8]) -> bool
     ensures { result ≡ well_formed characters.now }
 {
     let n = characters.len();
-    all_digits(characters) && n % 2 == 0 && n >= 6 && n <= LONGEST
+    all_digits(characters) && n % 2 == 0 && (6..=LONGEST).contains(&n)
 }
 
 /// The place of the first line feed, where at most 516 characters stand before it.

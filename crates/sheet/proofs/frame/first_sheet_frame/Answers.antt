@@ -2,7 +2,7 @@ use Rattle.std.proofs.Common.{sym, ap}
 use Rattle.std.proofs.lemmas.Result.{err_from_is_err_and}
 use Rattle.sheet.specs.Content.{known}
 use Rattle.sheet.specs.Sheets.{and_then}
-use Rattle.sheet.proofs.ItemSteps.{item_fault, item_over}
+use Rattle.sheet.proofs.ItemSteps.{item_fault}
 use Rattle.sheet.proofs.frame.first_sheet_frame.Goals as goal
 
 pub returns-in_err-raw : goal.returns-in_err-raw

@@ -1,6 +1,5 @@
-use Rattle.std.proofs.Common.{◌+◌, ◌*◌, ◌≤◌, length, get_or, sym, ap, ◌∙◌, arith, length-drop, Less, Equal, Greater, rules}
+use Rattle.std.proofs.Common.{◌≤◌, length, sym, ◌∙◌, Less, Equal, Greater, rules}
 use Rattle.std.proofs.lemmas.Cmp.{ranked}
-use Rattle.sheet.specs.Digits.{bytes_of}
 use Rattle.sheet.proofs.EntrySteps.{sheet_long, at_first, nothing_listed, entry_at, at_next, entry_long, entry_mills, entry_past}
 use Rattle.sheet.proofs.source.mills_of.Goals as goal
 use Rattle.sheet.proofs.source.mills_of.Goals.{else-loop-rest-test, then-loop-rest-test+in-Greater}
