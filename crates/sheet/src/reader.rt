@@ -9,6 +9,7 @@ use crate::frame::{Entry, SheetFrame, count_due, first_sheet_frame};
 use vocabulary::Refusal;
 
 /// A sheet that is being read: what is left of its text, and what may come next in it.
+/// Each entry raises the floor with the line, so that a line's number stays small.
 #[derive(Drop)]
 struct SheetReader<'a> {
     /// The text that is left.
