@@ -16,7 +16,7 @@ use Rattle.sheet.specs.declared.frame.SheetFrame.TheVariants.{Mills, Program, En
 
 -- the bytes that an iterator over digits has still to give
 abbrev pub left : Bytes → List ℕ
-left iterator = bytes_of iterator.digits.now
+left iterator = bytes_of iterator.0.now
 
 -- a frame whose payload is still digits
 abbrev pub content : RawFrame → Frame

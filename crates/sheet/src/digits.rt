@@ -32,9 +32,7 @@ pub fn byte_at(digits: &[u8], index: usize) -> u8
 
 /// An iterator over the bytes that digits write, two digits a byte.
 #[derive(Drop)]
-pub(crate) struct Bytes<'a> {
-    pub digits: &'a [u8],
-}
+pub(crate) struct Bytes<'a>(pub &'a [u8]);
 
 impl<'a> Iterator for Bytes<'a> {
     type Item = u8;
@@ -44,10 +42,10 @@ impl<'a> Iterator for Bytes<'a> {
     ghost remaining = { item_count left };
 
     fn next(&mut self) -> Option<u8> {
-        let [high, low, rest @ ..] = self.digits else {
+        let [high, low, rest @ ..] = self.0 else {
             return None;
         };
-        self.digits = rest;
+        self.0 = rest;
         Some(byte_value(*high, *low))
     }
 }
@@ -65,5 +63,5 @@ pub(crate) fn all_digits(characters: &[u8]) -> bool
 pub(crate) fn byte_sum(digits: &[u8]) -> u8
     ensures { result ≡ sum (bytes_of digits.now) % 256 }
 {
-    Bytes { digits }.fold(0, |total: u8, byte| total.wrapping_add(byte))
+    Bytes(digits).fold(0, |total: u8, byte| total.wrapping_add(byte))
 }

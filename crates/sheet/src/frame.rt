@@ -83,7 +83,7 @@ fn rises(digits: &[u8], bound: u8) -> bool
     ensures { result ≡ rising 0 bound (bytes_of digits.now) }
 {
     let mut floor = 0u16;
-    for number in (Bytes { digits }) {
+    for number in Bytes(digits) {
         if u16::from(number) < floor || number >= bound {
             return false;
         }

@@ -74,7 +74,7 @@ fn mills_of(text: &[u8], program: Program) -> &[u8]
 fn lists(digits: &[u8], number: u8) -> bool
     ensures { result ≡ member number (bytes_of digits.now) }
 {
-    Bytes { digits }.any(|byte| byte == number)
+    Bytes(digits).any(|byte| byte == number)
 }
 
 impl<'a> Source for SheetSource<'a> {
