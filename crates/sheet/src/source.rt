@@ -12,7 +12,6 @@ use crate::frame::Entry;
 use crate::kind::FrameKind;
 use crate::reader::check;
 use capability::Source;
-use std::cmp::Ordering;
 use vocabulary::{Mill, Program};
 
 /// A source over a lent text. A text that is no lawful sheet means no mill and no pair.
@@ -61,11 +60,13 @@ fn mills_of(text: &[u8], program: Program) -> &[u8]
     let mut rest = &text[COUNT_LINE..];
     while byte_at(rest, 0) == u8::from(FrameKind::Program) {
         let (entry, after) = front_entry(rest);
-        match entry.program.0.cmp(&program.0) {
-            Ordering::Less => rest = after,
-            Ordering::Equal => return entry.mills,
-            Ordering::Greater => break,
+        if entry.program == program {
+            return entry.mills;
         }
+        if entry.program.0 > program.0 {
+            break;
+        }
+        rest = after;
     }
     &[]
 }
