@@ -1,20 +1,19 @@
 -- Where the sheet source stands when it steps over a lawful sheet by the count bytes.
-use Rattle.std.proofs.Common.{◌≡◌, ℕ, ◌+◌, ◌-◌, ◌*◌, ◌/◌, ◌<◌, ◌≤◌, true, false, ◌||◌, eqb, ◌⊎◌, List, [], ◌∷◌, ◌++◌, length, get_or, take, drop, is_ok, Ok, Err, Result, sym, refl, ap, ◌∙◌, inl, inr, ⊎_elim, append_assoc, add-one, arith, length-append}
+use Rattle.std.proofs.Common.{◌≡◌, ℕ, ◌+◌, ◌-◌, ◌*◌, ◌<◌, ◌≤◌, true, false, ◌⊎◌, List, [], ◌∷◌, ◌++◌, length, get_or, take, drop, is_ok, Ok, Err, Result, sym, refl, ap, ◌∙◌, inl, inr, ⊎_elim, append_assoc, add-one, arith, length-append}
 use Rattle.std.specs.List.{flat_map, AllByRecursion as All}
-use Rattle.std.proofs.lemmas.List.{drop_at, take_at, take_rest, at_drop_more, at_drop_all}
-use Rattle.std.proofs.lemmas.Bool.{or_left, eq-eqb, ne_eqb, cases_Bool}
+use Rattle.std.proofs.lemmas.List.{drop_at, take_at, take_rest}
+use Rattle.std.proofs.lemmas.Bool.{cases_Bool}
 use Rattle.vocabulary.specs.declared.refusal.Refusal.{Refusal}
 use Rattle.capability.specs.Meaning.{Meaning, Lawful}
 use Rattle.sheet.specs.declared.frame.Entry.{Entry}
 use Rattle.sheet.specs.Digits.{bytes_of, digits_for}
 use Rattle.sheet.specs.Frames.{Frame, frame_bytes, frame_text}
-use Rattle.sets.specs.Sets.{member}
 use Rattle.sheet.specs.Sheets.{sheet_of, meaning_of}
 use Rattle.sheet.specs.Front.{FrontEntry}
 use Rattle.sheet.specs.Written.{mills_for, count_text, end_text, entries_text}
 use Rattle.sheet.proofs.ByteLaws.{bytes_drop, bytes_take}
 use Rattle.sheet.proofs.Canonical.{canonical, lawful_sheet}
-use Rattle.sheet.proofs.DigitLaws.{byte_back, length_bytes}
+use Rattle.sheet.proofs.DigitLaws.{byte_back}
 use Rattle.sheet.proofs.FrameLaws.{Fits, fits_bytes, length_frame}
 use Rattle.sheet.proofs.MillLaws.{fits_entry}
 use Rattle.sheet.proofs.NextEntry.{NoneLeft, NextIs, next_entry_lem}
@@ -174,21 +173,6 @@ module _ (m : Meaning) (program : ℕ) (rest : List ℕ) (e : EntryHere m progra
           low = omega arith;
           text = front.rest_is ∙ ap (λ k. drop k rest) size ∙ e.more;
         }
-
--- numbers looked through one by one
-module _ (ds : List ℕ) (i x number : ℕ) (within : i < length ds / 2) (read : x ≡ get_or (bytes_of ds) i 0) where
-  first_or_rest : member number (drop i (bytes_of ds)) ≡ (eqb number x || member number (drop (i + 1) (bytes_of ds)))
-  first_or_rest =
-      at_drop_more (member number) (bytes_of ds) i 0 (omega (arith, length_bytes ds)) ∙ ap (λ y. eqb number y || member number (drop (i + 1) (bytes_of ds))) (sym read)
-
-  pub found_here : x ≡ number → member number (drop i (bytes_of ds)) ≡ true
-  found_here e = first_or_rest ∙ or_left _ _ (eq-eqb number x (sym e))
-
-  pub not_here : (x ≡ number → ⊥) → member number (drop (i + 1) (bytes_of ds)) ≡ member number (drop i (bytes_of ds))
-  not_here other = sym (first_or_rest ∙ ap (λ b. b || member number (drop (i + 1) (bytes_of ds))) (ne_eqb number x (λ e. other (sym e))))
-
-pub found_nowhere : (ds : List ℕ) (i number : ℕ) → length ds / 2 ≤ i → member number (drop i (bytes_of ds)) ≡ false
-found_nowhere ds i number past = at_drop_all (member number) (bytes_of ds) i (omega (arith, length_bytes ds))
 
 -- the same, at the meaning of a text that was found to be a sheet
 module _ (text : List ℕ) (ok : is_ok (sheet_of text) ≡ true) (program : ℕ) (small : program < 256) where

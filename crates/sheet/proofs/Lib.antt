@@ -15,7 +15,7 @@ pub mod FrameSteps
 pub mod LineSteps
 pub mod OnlyLine
 pub mod ItemSteps
-pub mod RiseSteps
+pub mod KindSteps
 pub mod ReaderSteps
 pub mod EntrySteps
 pub mod OneSheetEach

@@ -1,5 +1,5 @@
 -- Where the first line of a text ends, and that a text without a line feed in reach has no good line.
-use Rattle.std.proofs.Common.{◌≡◌, ℕ, ◌+◌, ◌-◌, ◌%◌, ◌<◌, ◌≤◌, min, false, eqb, leb, List, ◌∷◌, ◌++◌, length, get_or, take, drop, Err, sym, refl, ap, ◌∙◌, subst, ⊎_elim, add-one, arith, length-append, length-drop, take-append-drop, length-take, length-take-le, drop-cons, get_or-take}
+use Rattle.std.proofs.Common.{◌≡◌, ℕ, ◌+◌, ◌-◌, ◌%◌, ◌<◌, min, false, eqb, leb, List, ◌∷◌, ◌++◌, length, get_or, take, drop, Err, sym, refl, ap, ◌∙◌, subst, ⊎_elim, add-one, arith, length-append, length-drop, take-append-drop, length-take-le, drop-cons, get_or-take}
 use Rattle.std.proofs.ByRecursion.{All-from_get_or}
 use Rattle.std.proofs.lemmas.List.{get_or_at, take_rest}
 use Rattle.std.proofs.lemmas.Bool.{and_right, lt-leb, cases_lt}
@@ -39,29 +39,11 @@ no_frame i text (line cs rest) e none =
 pub no_line : (i : ℕ) (text : List ℕ) → ((k : ℕ) → k < min 517 (length text) → get_or text k 0 ≡ 10 → ⊥) → first_frame i (lines_of text) ≡ Err (BadLine i)
 no_line i text none = no_frame i text (lines_of text) refl none
 
--- the search of a line's end looks at the first m characters, at most 517
-module _ (text : List ℕ) (m : ℕ) (is : m ≡ min (length text) 517) where
-  pub end_found : (n : ℕ) → n < length (take (m - 0) text) → get_or (take (m - 0) text) n 0 ≡ 10 → ((k : ℕ) → k < n → get_or (take (m - 0) text) k 0 ≡ 10 → ⊥) → EndsAt text n
-  end_found n within feed none =
-      let long = length-take (m - 0) text in
-      record {
-        inside = omega arith;
-        few = omega arith;
-        feed = sym (get_or-take (m - 0) text n 0 (omega arith)) ∙ feed;
-        none = λ k lt e. none k lt (get_or-take (m - 0) text k 0 (omega arith) ∙ e);
-      }
-
-  pub none_found : (n : ℕ) → length (take (m - 0) text) ≤ n → ((k : ℕ) → k < n → get_or (take (m - 0) text) k 0 ≡ 10 → ⊥) → (k : ℕ) → k < min 517 (length text) → get_or text k 0 ≡ 10 → ⊥
-  none_found n past none k lt e =
-      let long = length-take (m - 0) text in
-      none k (omega arith) (get_or-take (m - 0) text k 0 (omega arith) ∙ e)
-
 -- the parts of the text as the reader cuts it at its first line feed
-pub split_at : (text : List ℕ) (n : ℕ) → EndsAt text n → Split text (take (n - 0) text) (take (length text - (n + 1)) (drop (n + 1) text))
+pub split_at : (text : List ℕ) (n : ℕ) → EndsAt text n → Split text (take n text) (take (length text - (n + 1)) (drop (n + 1) text))
 split_at text n ends =
-    let whole : n ≡ n - 0 = omega arith in
     let within = ends.inside in
     record {
-      line_is = first_line text n ends ∙ (λ j. line (take (whole j) text) (lines_of (sym (take_rest text (n + 1)) j)));
+      line_is = first_line text n ends ∙ (λ j. line (take n text) (lines_of (sym (take_rest text (n + 1)) j)));
       shorter = omega (arith, ap length (take_rest text (n + 1)), length-drop (n + 1) text);
     }

@@ -1,5 +1,6 @@
 -- A text that is one line, and a text that is not.
-use Rattle.std.proofs.Common.{◌≡◌, ℕ, Bool, true, false, cond, eqb, List, [], ◌∷◌, length, Err, refl, ap, ◌∙◌, arith}
+use Rattle.std.proofs.Common.{◌≡◌, ℕ, Bool, true, false, cond, eqb, List, [], ◌∷◌, length, Bor, Err, MatchOption, sym, refl, ap, ◌∙◌, arith}
+use Rattle.std.specs.Bool.{then_some}
 use Rattle.std.proofs.lemmas.Bool.{eqb-true, eqb-false}
 use Rattle.vocabulary.specs.declared.refusal.Refusal.TheVariants.{BadLine}
 use Rattle.sheet.specs.Content.{Split}
@@ -14,11 +15,6 @@ only_none i (line cs over) bad = bad
 only_none i (line cs (open_ended more)) bad = refl
 only_none i (line cs (line more rest)) bad = refl
 
--- a line and nothing behind it
-pub only_one : (text cs rest : List ℕ) → Split text cs rest → eqb (length rest) 0 ≡ true → (i : ℕ) → only_frame i (lines_of text) ≡ frame_in i cs
-only_one text cs [] split empty i = ap (only_frame i) split.line_is
-only_one text cs (c ∷ rest) split empty i = absurd (omega (arith, eqb-true (length (c ∷ rest)) 0 empty))
-
 -- a line and something behind it
 some_lines : (i : ℕ) (cs : List ℕ) (c : ℕ) (feed : Bool) (rest : Lines) → only_frame i (line cs (cond feed (line [] rest) (fronted c rest))) ≡ Err (BadLine i)
 some_lines i cs c true rest = refl
@@ -26,6 +22,9 @@ some_lines i cs c false over = refl
 some_lines i cs c false (open_ended more) = refl
 some_lines i cs c false (line more rest) = refl
 
-pub only_more : (text cs rest : List ℕ) → Split text cs rest → eqb (length rest) 0 ≡ false → (i : ℕ) → only_frame i (lines_of text) ≡ Err (BadLine i)
-only_more text cs [] split some i = absurd (eqb-false (length {A = ℕ} []) 0 some refl)
-only_more text cs (c ∷ rest) split some i = ap (only_frame i) split.line_is ∙ some_lines i cs c (eqb c 10) (lines_of rest)
+-- whether something stands behind the first line decides
+pub only_checked : (text : List ℕ) (cs : Bor (List ℕ)) (rest : List ℕ) → Split text cs.now rest → (last : Bool) → last ≡ eqb (length rest) 0 → MatchOption (then_some last cs) ((i : ℕ) → only_frame i (lines_of text) ≡ Err (BadLine i)) (λ x. (i : ℕ) → only_frame i (lines_of text) ≡ frame_in i x.now)
+only_checked text cs [] split true e = λ i. ap (only_frame i) split.line_is
+only_checked text cs (c ∷ rest) split true e = absurd (omega (arith, eqb-true (length (c ∷ rest)) 0 (sym e)))
+only_checked text cs [] split false e = absurd (eqb-false (length {A = ℕ} []) 0 (sym e) refl)
+only_checked text cs (c ∷ rest) split false e = λ i. ap (only_frame i) split.line_is ∙ some_lines i cs.now c (eqb c 10) (lines_of rest)

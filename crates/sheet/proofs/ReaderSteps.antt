@@ -1,6 +1,5 @@
 -- What one frame of a sheet does to what the rest of it lists: the steps of the sheet reader.
-use Rattle.std.proofs.Common.{◌≡◌, ℕ, suc, List, length, Some, None, Ok, Err, Option, Result, sym, refl, ap, ◌∙◌}
-use Rattle.std.specs.Option.{option_map}
+use Rattle.std.proofs.Common.{◌≡◌, ℕ, suc, ◌<◌, List, length, Some, None, Ok, Err, Option, Result, sym, refl, ap, ◌∙◌, subst}
 use Rattle.std.specs.Result as results
 use Rattle.vocabulary.specs.declared.refusal.Refusal.{Refusal}
 use Rattle.vocabulary.specs.declared.refusal.Refusal.TheVariants.{NotDue}
@@ -8,8 +7,10 @@ use Rattle.capability.specs.Meaning.{Meaning}
 use Rattle.sheet.specs.declared.frame.SheetFrame.{SheetFrame}
 use Rattle.sheet.specs.Lines.{Lines, over, open_ended, line, lines_of}
 use Rattle.sheet.specs.Frames.{Frame, frame_in, after_first}
-use Rattle.sheet.specs.Sheets.{Entry, Item, item_of, and_then, first_item, count_due, entry_due, Able, listing, going_on, at_end, entries_in, sheet_in, sheet_of}
-use Rattle.sheet.specs.Content.{item, Came, Opened, Listed}
+use Rattle.sheet.specs.Sheets.{Entry, Item, item_of, and_then, first_item, count_due, entry_due, Able, listing, going_on, at_end, entries_in, sheet_in, sheet_of, meaning_of}
+use Rattle.sheet.specs.Content.{item, known, Came}
+use Rattle.sheet.specs.Reading.{ahead, Opened, Listed}
+use Rattle.sheet.specs.declared.reader.SheetReader.{SheetReader}
 use Rattle.sheet.proofs.ItemLaws.{from_count_due, from_entry_due}
 use Rattle.sheet.proofs.LineLaws.{text_of, text_again}
 
@@ -39,50 +40,74 @@ sheet_first over = refl
 sheet_first (open_ended cs) = refl
 sheet_first (line cs rest) = item_first (frame_in 1 cs) (sheet_after rest)
 
-module _ (text : List ℕ) where
-  pub opening_fault : (e : Refusal) → first_item 1 (lines_of text) ≡ Err e → sheet_of text ≡ Err e
-  opening_fault e h = sheet_first (lines_of text) ∙ ap (λ r. and_then r (sheet_after (after_first (lines_of text)))) h
+-- where no frame of a sheet comes first, whatever comes after the first item is refused as it is
+no_frame : {B : Type 0} (number : ℕ) (r : Result (Option Item) Refusal) (k : Option Item → Result B Refusal) → k None ≡ Err (NotDue number) → (e : Refusal) → and_then r (known number) ≡ Err e → and_then r k ≡ Err e
+no_frame number (Ok (Some i)) k none e h = cc
+no_frame number (Ok None) k none e h = none ∙ cc
+no_frame number (Err f) k none e h = cc
 
-  module _ (frame : Option SheetFrame) (rest : List ℕ) (came : Came 1 text frame rest) where
-    opened : sheet_of text ≡ sheet_after (lines_of rest) (option_map item frame)
+module _ (text : List ℕ) where
+  pub opening_fault : (e : Refusal) → and_then (first_item 1 (lines_of text)) (known 1) ≡ Err e → sheet_of text ≡ Err e
+  opening_fault e h = sheet_first (lines_of text) ∙ no_frame 1 (first_item 1 (lines_of text)) (sheet_after (after_first (lines_of text))) refl e h
+
+  module _ (frame : SheetFrame) (rest : List ℕ) (came : Came 1 text (Some frame) rest) where
+    opened : sheet_of text ≡ sheet_after (lines_of rest) (Some (item frame))
     opened =
         sheet_first (lines_of text)
         ∙ ap (λ r. and_then r (sheet_after (after_first (lines_of text)))) came.first
-        ∙ ap (λ l. sheet_after l (option_map item frame)) (sym came.after)
+        ∙ ap (λ l. sheet_after l (Some (item frame))) (sym came.after)
 
-    pub count_fault : (e : Refusal) → count_due 1 (option_map item frame) ≡ Err e → sheet_of text ≡ Err e
+    pub count_fault : (e : Refusal) → count_due 1 (Some (item frame)) ≡ Err e → sheet_of text ≡ Err e
     count_fault e h = opened ∙ ap (λ r. and_then r (λ mills. and_then (entries_in mills 0 2 (lines_of rest)) (meant mills))) h
 
-    pub sheet_opened : (mills : ℕ) → count_due 1 (option_map item frame) ≡ Ok mills → Opened text mills rest
-    sheet_opened mills h =
-        let due = from_count_due 1 mills (option_map item frame) h in
+    pub sheet_opened : (reader : SheetReader) → reader.rest.now ≡ rest → reader.line ≡ 2 → reader.floor ≡ 0 → count_due 1 (Some (item frame)) ≡ Ok reader.mills → Opened text reader
+    sheet_opened reader left second first h =
+        let due = from_count_due 1 reader.mills (Some (item frame)) h in
         record {
           some = due.1;
           few = due.2;
-          reads = opened ∙ ap (λ r. and_then r (λ mills. and_then (entries_in mills 0 2 (lines_of rest)) (meant mills))) h;
+          first = first;
+          second_line = second;
+          reads = opened
+              ∙ ap (λ r. and_then r (λ mills. and_then (entries_in mills 0 2 (lines_of rest)) (meant mills))) h
+              ∙ (λ j. and_then (entries_in reader.mills (sym first j) (sym second j) (lines_of (sym left j))) (meant reader.mills));
         }
 
-module _ (mills floor number : ℕ) (text : List ℕ) where
-  pub entry_fault : (e : Refusal) → first_item number (lines_of text) ≡ Err e → entries_in mills floor number (lines_of text) ≡ Err e
-  entry_fault e h = entries_first mills floor number (lines_of text) ∙ ap (λ r. and_then r (entries_after mills floor number (after_first (lines_of text)))) h
+-- what a reader's next frame is due as
+abbrev pub due_as : SheetReader → SheetFrame → Result (Option Entry) Refusal
+due_as reader frame = entry_due reader.mills reader.floor reader.line (Some (item frame))
 
-  module _ (frame : Option SheetFrame) (rest : List ℕ) (came : Came number text frame rest) where
-    going : entries_in mills floor number (lines_of text) ≡ entries_after mills floor number (lines_of rest) (option_map item frame)
+module _ (before : SheetReader) where
+  pub entry_fault : (e : Refusal) → and_then (first_item before.line (lines_of before.rest.now)) (known before.line) ≡ Err e → ahead before ≡ Err e
+  entry_fault e h =
+      entries_first before.mills before.floor before.line (lines_of before.rest.now)
+      ∙ no_frame before.line (first_item before.line (lines_of before.rest.now)) (entries_after before.mills before.floor before.line (after_first (lines_of before.rest.now))) refl e h
+
+  module _ (frame : SheetFrame) (rest : List ℕ) (came : Came before.line before.rest.now (Some frame) rest) where
+    going : ahead before ≡ entries_after before.mills before.floor before.line (lines_of rest) (Some (item frame))
     going =
-        entries_first mills floor number (lines_of text)
-        ∙ ap (λ r. and_then r (entries_after mills floor number (after_first (lines_of text)))) came.first
-        ∙ ap (λ l. entries_after mills floor number l (option_map item frame)) (sym came.after)
+        entries_first before.mills before.floor before.line (lines_of before.rest.now)
+        ∙ ap (λ r. and_then r (entries_after before.mills before.floor before.line (after_first (lines_of before.rest.now)))) came.first
+        ∙ ap (λ l. entries_after before.mills before.floor before.line l (Some (item frame))) (sym came.after)
 
-    due : (o : Result (Option Entry) Refusal) → entry_due mills floor number (option_map item frame) ≡ o → entries_in mills floor number (lines_of text) ≡ and_then o (going_on (λ e. entries_in mills (suc e.program) (suc number) (lines_of rest)) (at_end number (lines_of rest)))
-    due o h = going ∙ ap (λ r. and_then r (going_on (λ e. entries_in mills (suc e.program) (suc number) (lines_of rest)) (at_end number (lines_of rest)))) h
+    due : (o : Result (Option Entry) Refusal) → due_as before frame ≡ o → ahead before ≡ and_then o (going_on (λ e. entries_in before.mills (suc e.program) (suc before.line) (lines_of rest)) (at_end before.line (lines_of rest)))
+    due o h = going ∙ ap (λ r. and_then r (going_on (λ e. entries_in before.mills (suc e.program) (suc before.line) (lines_of rest)) (at_end before.line (lines_of rest)))) h
 
-    pub due_fault : (e : Refusal) → entry_due mills floor number (option_map item frame) ≡ Err e → entries_in mills floor number (lines_of text) ≡ Err e
+    pub due_fault : (e : Refusal) → due_as before frame ≡ Err e → ahead before ≡ Err e
     due_fault e h = due (Err e) h
 
-    pub entry_listed : (e : Entry) → entry_due mills floor number (option_map item frame) ≡ Ok (Some e) → Listed mills floor number text e rest
-    entry_listed e h = record { rises = (from_entry_due mills floor number e (option_map item frame) h).1; reads = due (Ok (Some e)) h; shorter = came.shorter }
+    pub entry_listed : (e : Entry) (after : SheetReader) → due_as before frame ≡ Ok (Some e) → after.rest.now ≡ rest → after.mills ≡ before.mills → after.floor ≡ suc e.program → after.line ≡ suc before.line → Listed before e after
+    entry_listed e after h left same floor next = record {
+      rises = (from_entry_due before.mills before.floor before.line e (Some (item frame)) h).1;
+      mills = same;
+      floor = floor;
+      line = next;
+      reads = due (Ok (Some e)) h
+          ∙ (λ j. and_then (entries_in (sym same j) (sym floor j) (sym next j) (lines_of (sym left j))) (λ others. Ok (listing e others)));
+      shorter = subst (λ l. length l < length before.rest.now) (sym left) came.shorter;
+    }
 
-    pub at_end_lem : entry_due mills floor number (option_map item frame) ≡ Ok None → entries_in mills floor number (lines_of text) ≡ at_end number (lines_of rest)
+    pub at_end_lem : due_as before frame ≡ Ok None → ahead before ≡ at_end before.line (lines_of rest)
     at_end_lem h = due (Ok None) h
 
 -- characters behind the end frame, however they go on, are not due
@@ -101,20 +126,7 @@ mills_in = results.result_map_both (λ meaning. meaning.mills) (λ e. e)
 abbrev pub verdict : ℕ → Result Able Refusal → Result ℕ Refusal
 verdict mills = results.result_map_both (λ _. mills) (λ e. e)
 
-pub verdict_listing : (mills : ℕ) (e : Entry) (r : Result Able Refusal) → verdict mills (and_then r (λ others. Ok (listing e others))) ≡ verdict mills r
-verdict_listing mills e (Ok able) = refl
-verdict_listing mills e (Err fault) = refl
-
-pub verdict_meant : (mills : ℕ) (r : Result Able Refusal) → mills_in (and_then r (λ able. Ok (record { mills = mills; able = able }))) ≡ verdict mills r
-verdict_meant mills (Ok able) = refl
-verdict_meant mills (Err fault) = refl
-
--- the verdict of a sheet goes over from the whole text to what is behind its first line, and then from entry to entry
-pub verdict_opened : (text : List ℕ) (mills : ℕ) (rest : List ℕ) → Opened text mills rest → verdict mills (entries_in mills 0 2 (lines_of rest)) ≡ mills_in (sheet_of text)
-verdict_opened text mills rest o = sym (ap mills_in o.reads ∙ verdict_meant mills (entries_in mills 0 2 (lines_of rest)))
-
-module _ (mills floor number : ℕ) (text : List ℕ) (e : Entry) (rest : List ℕ) (l : Listed mills floor number text e rest) where
-  pub verdict_listed : (next after : ℕ) → next ≡ suc e.program → after ≡ suc number → verdict mills (entries_in mills next after (lines_of rest)) ≡ verdict mills (entries_in mills floor number (lines_of text))
-  verdict_listed next after n a =
-      (λ j. verdict mills (entries_in mills (n j) (a j) (lines_of rest)))
-      ∙ sym (ap (verdict mills) l.reads ∙ verdict_listing mills e (entries_in mills (suc e.program) (suc number) (lines_of rest)))
+-- where a text is refused, it counts as one of no mills
+pub count_or_none : (r : Result Meaning Refusal) → results.result_unwrap_or (mills_in r) 0 ≡ (meaning_of r).mills
+count_or_none (Ok meaning) = refl
+count_or_none (Err fault) = refl

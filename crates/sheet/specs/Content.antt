@@ -1,15 +1,22 @@
 -- What the readers' values stand for, as the definitions of frames and sheets have it.
-use Rattle.std.specs.Prelude.{◌≡◌, ℕ, suc, ◌<◌, ◌≤◌, List, length, Ok, Option, ◌≢◌, slice_index, slice_index_or}
+use Rattle.std.specs.Prelude.{◌≡◌, ℕ, ◌<◌, ◌≤◌, List, length, Some, None, Ok, Err, Option, Result, ◌≢◌, slice_index, slice_index_or}
+use Rattle.vocabulary.specs.declared.refusal.Refusal.{Refusal}
+use Rattle.vocabulary.specs.declared.refusal.Refusal.TheVariants.{NotDue}
 use Rattle.sheet.specs.Digits.{bytes_of}
 use Rattle.sheet.specs.Lines.{line, lines_of}
 use Rattle.sheet.specs.Frames.{Frame, first_frame, after_first}
 use Rattle.std.specs.Option.{option_map}
 use Rattle.sheet.specs.Sheets as sheets
-use Rattle.sheet.specs.Sheets.{Item, first_item, sheet_of, entries_in, and_then, listing}
+use Rattle.sheet.specs.Sheets.{Item, first_item}
+use Rattle.sheet.specs.declared.digits.Bytes.{Bytes}
 use Rattle.sheet.specs.declared.line.RawFrame.{RawFrame}
 use Rattle.sheet.specs.declared.frame.Entry.{Entry}
 use Rattle.sheet.specs.declared.frame.SheetFrame.{SheetFrame}
 use Rattle.sheet.specs.declared.frame.SheetFrame.TheVariants.{Mills, Program, End}
+
+-- the bytes that an iterator over digits has still to give
+abbrev pub left : Bytes → List ℕ
+left iterator = bytes_of iterator.0.now
 
 -- a frame whose payload is still digits
 abbrev pub content : RawFrame → Frame
@@ -35,22 +42,15 @@ item (Mills n) = sheets.count n
 item (Program e) = sheets.entry (listed e)
 item End = sheets.end
 
+-- a frame of another kind, or of a wrong length for its kind, is not due
+abbrev pub known : ℕ → Option Item → Result Item Refusal
+known number (Some i) = Ok i
+known number None = Err (NotDue number)
+
 -- the same of a frame as a sheet has it
 pub record Came (number : ℕ) (text : List ℕ) (frame : Option SheetFrame) (rest : List ℕ) : Type 0 where
   pub first : first_item number (lines_of text) ≡ Ok (option_map item frame)
   pub after : lines_of rest ≡ after_first (lines_of text)
-  pub shorter : length rest < length text
-
--- the text is a sheet of so many mills as far as its first line goes, and this is the text behind it
-pub record Opened (text : List ℕ) (mills : ℕ) (rest : List ℕ) : Type 0 where
-  pub some : 1 ≤ mills
-  pub few : mills ≤ 64
-  pub reads : sheet_of text ≡ and_then (entries_in mills 0 2 (lines_of rest)) (λ able. Ok (record { mills = mills; able = able }))
-
--- the text goes on with this entry, of a program from `floor` on, and this is the text behind it
-pub record Listed (mills floor number : ℕ) (text : List ℕ) (e : sheets.Entry) (rest : List ℕ) : Type 0 where
-  pub rises : floor ≤ e.program
-  pub reads : entries_in mills floor number (lines_of text) ≡ and_then (entries_in mills (suc e.program) (suc number) (lines_of rest)) (λ others. Ok (listing e others))
   pub shorter : length rest < length text
 
 -- the first line feed of a text stands at this place, behind at most 516 characters

@@ -1,9 +1,11 @@
 pub mod Digits
 pub mod Lines
+pub mod Kinds
 pub mod Frames
 pub mod Sheets
 pub mod Written
 pub mod Content
+pub mod Reading
 pub mod Front
 pub mod Area
 pub mod Copies

@@ -6,21 +6,13 @@ ghost use Rattle.sheet.specs.Theorems.{OneSheetEach, Compared};
 use crate::reader::check;
 use vocabulary::Refusal;
 
-/// Checks both texts, and compares their bytes.
-fn same_bytes(left: &[u8], right: &[u8]) -> Result<bool, Refusal>
-    ensures one_sheet_each { OneSheetEach }
-    ensures cases { MatchResult result (Compared left.now right.now) (λ e. and_then (sheet_of left.now) (λ _. sheet_of right.now) ≡ Err e) }
-{
-    check(left)?;
-    check(right)?;
-    Ok(left == right)
-}
-
 /// Whether two lawful sheets mean the same, which they do exactly when they are the same bytes.
 /// Where one is no lawful sheet its fault is told, the left one's first.
 pub fn same_meaning(left: &[u8], right: &[u8]) -> Result<bool, Refusal>
     ensures one_sheet_each { OneSheetEach }
     ensures cases { MatchResult result (Compared left.now right.now) (λ e. and_then (sheet_of left.now) (λ _. sheet_of right.now) ≡ Err e) }
 {
-    same_bytes(left, right)
+    check(left)?;
+    check(right)?;
+    Ok(left == right)
 }

@@ -1,5 +1,5 @@
 //! The line reader: takes a frame from the front of a text, and tells the faults of a single line.
-ghost use Rattle.std.specs.Prelude.{◌≡◌, ℕ, ◌<◌, ◌≤◌, min, List, length, Ok, Err, MatchOption, MatchResult, ◌≢◌, slice_index};
+ghost use Rattle.std.specs.Prelude.{◌≡◌, ℕ, ◌<◌, min, length, Ok, Err, MatchOption, MatchResult, ◌≢◌, slice_index};
 ghost use Rattle.vocabulary.specs.declared.refusal.Refusal.TheVariants.{BadLine};
 ghost use Rattle.sheet.specs.Lines.{lines_of};
 ghost use Rattle.sheet.specs.Frames.{well_formed, frame_in, first_frame, only_frame};
@@ -23,20 +23,14 @@ fn well_formed(characters: &[u8]) -> bool
     ensures { result ≡ well_formed characters.now }
 {
     let n = characters.len();
-    all_digits(characters) && n % 2 == 0 && n >= 6 && n <= LONGEST
+    all_digits(characters) && n % 2 == 0 && (6..=LONGEST).contains(&n)
 }
 
 /// The place of the first line feed, where at most 516 characters stand before it.
 fn line_end(text: &[u8]) -> Option<usize>
     ensures { MatchOption result ((k : ℕ) → k < min 517 (length text.now) → slice_index text.now k ≢ 10) (EndsAt text.now) }
 {
-    let front = &text[0..text.len().min(LONGEST + 1)];
-    for (i, c) in front.iter().enumerate() {
-        if *c == b'\n' {
-            return Some(i);
-        }
-    }
-    None
+    text.iter().take(LONGEST + 1).position(|c| *c == b'\n')
 }
 
 /// The frame on a line, given its characters without the line feed.
@@ -64,16 +58,14 @@ fn split_line(text: &[u8]) -> Option<(&[u8], &[u8])>
     ensures { MatchOption result ((i : ℕ) → first_frame i (lines_of text.now) ≡ Err (BadLine i)) (λ x. Split text.now x.0.now x.1.now) }
 {
     let end = line_end(text)?;
-    Some((&text[0..end], &text[end + 1..]))
+    Some((&text[..end], &text[end + 1..]))
 }
 
 /// The frame on the first line of a text, and the text behind that line.
 pub fn first_frame(text: &[u8], line: u16) -> Result<(RawFrame<'_>, &[u8]), Refusal>
     ensures { MatchResult result (λ x. Taken line text.now (content x.0) x.1.now) (λ e. first_frame line (lines_of text.now) ≡ Err e) }
 {
-    let Some((characters, rest)) = split_line(text) else {
-        return Err(Refusal::BadLine { line });
-    };
+    let (characters, rest) = split_line(text).ok_or(Refusal::BadLine { line })?;
     let frame = frame_in(characters, line)?;
     Ok((frame, rest))
 }
@@ -82,22 +74,14 @@ pub fn first_frame(text: &[u8], line: u16) -> Result<(RawFrame<'_>, &[u8]), Refu
 pub fn only_frame(text: &[u8], line: u16) -> Result<RawFrame<'_>, Refusal>
     ensures { MatchResult result (λ raw. only_frame line (lines_of text.now) ≡ Ok (content raw)) (λ e. only_frame line (lines_of text.now) ≡ Err e) }
 {
-    match whole_line(text) {
-        Some(characters) => frame_in(characters, line),
-        None => Err(Refusal::BadLine { line }),
-    }
+    let characters = whole_line(text).ok_or(Refusal::BadLine { line })?;
+    frame_in(characters, line)
 }
 
 /// The characters of a text that is one line, without the line feed; nothing where it is not.
 fn whole_line(text: &[u8]) -> Option<&[u8]>
     ensures { MatchOption result ((i : ℕ) → only_frame i (lines_of text.now) ≡ Err (BadLine i)) (λ x. (i : ℕ) → only_frame i (lines_of text.now) ≡ frame_in i x.now) }
 {
-    let Some((characters, rest)) = split_line(text) else {
-        return None;
-    };
-    if rest.is_empty() {
-        Some(characters)
-    } else {
-        None
-    }
+    let (characters, rest) = split_line(text)?;
+    rest.is_empty().then_some(characters)
 }

@@ -1,5 +1,5 @@
 //! The sheet source: a shop's text, kept for reading only, that answers for the shop's abilities.
-ghost use Rattle.std.specs.Prelude.{◌≡◌, ℕ, ◌+◌, ◌*◌, ◌≤◌, true, length, is_ok, slice_index};
+ghost use Rattle.std.specs.Prelude.{◌≡◌, ◌+◌, ◌*◌, ◌≤◌, true, length, is_ok, slice_index};
 ghost use Rattle.capability.specs.Meaning.{Lawful};
 ghost use Rattle.sheet.specs.Front.{FrontEntry};
 ghost use Rattle.sheet.specs.Digits.{bytes_of};
@@ -7,8 +7,9 @@ ghost use Rattle.sets.specs.Sets.{member};
 ghost use Rattle.sheet.specs.Sheets.{sheet_of, meaning_of};
 ghost use Rattle.sheet.specs.Written.{mills_for};
 
-use crate::digits::byte_at;
+use crate::digits::{Bytes, byte_at};
 use crate::frame::Entry;
+use crate::kind::FrameKind;
 use crate::reader::check;
 use capability::Source;
 use vocabulary::{Mill, Program};
@@ -29,23 +30,13 @@ impl<'a> SheetSource<'a> {
     {
         SheetSource {
             text,
-            mills: mills_or_none(text),
+            mills: check(text).unwrap_or(0),
         }
     }
 }
 
-/// The count of mills of a sheet, and 0 of a text that is no lawful sheet.
-fn mills_or_none(text: &[u8]) -> u8
-    ensures { result ≡ (meaning_of (sheet_of text.now)).mills }
-{
-    check(text).unwrap_or(0)
-}
-
 /// The length of the first line of a sheet, which has the count of mills.
 const COUNT_LINE: usize = 9;
-
-/// The kind of a program frame.
-const PROGRAM: u8 = 2;
 
 /// The program frame at the front of a text, and the text behind its line, found by its count byte alone.
 fn front_entry(text: &[u8]) -> (Entry<'_>, &[u8])
@@ -62,42 +53,29 @@ fn front_entry(text: &[u8]) -> (Entry<'_>, &[u8])
 
 /// The digits of the mills that a lawful sheet lists for a program: none where it does not list the program.
 /// It steps from frame to frame by the count bytes, and decodes nothing else of the frames that it skips but their programs.
-fn mills_of(text: &[u8], program: u8) -> &[u8]
+fn mills_of(text: &[u8], program: Program) -> &[u8]
     requires { is_ok (sheet_of text.now) ≡ true }
-    ensures { bytes_of result.now ≡ mills_for (meaning_of (sheet_of text.now)) program }
+    ensures { bytes_of result.now ≡ mills_for (meaning_of (sheet_of text.now)) program.0 }
 {
     let mut rest = &text[COUNT_LINE..];
-    while byte_at(rest, 0) == PROGRAM {
+    while byte_at(rest, 0) == u8::from(FrameKind::Program) {
         let (entry, after) = front_entry(rest);
-        if entry.program.0 == program {
+        if entry.program == program {
             return entry.mills;
         }
-        if entry.program.0 > program {
+        if entry.program.0 > program.0 {
             break;
         }
         rest = after;
     }
-    &rest[0..0]
+    &[]
 }
 
 /// Whether a number is among those that the digits write.
 fn lists(digits: &[u8], number: u8) -> bool
     ensures { result ≡ member number (bytes_of digits.now) }
 {
-    for i in 0..digits.len() / 2 {
-        if byte_at(digits, i) == number {
-            return true;
-        }
-    }
-    false
-}
-
-/// Whether the sheet in a text lists a mill for a program, where the sheet has so many mills.
-fn lists_pair(text: &[u8], mills: u8, program: Program, mill: Mill) -> bool
-    requires { mills ≡ (meaning_of (sheet_of text.now)).mills }
-    ensures { result ≡ (meaning_of (sheet_of text.now)).able program.0 mill.0 }
-{
-    mills > 0 && lists(mills_of(text, program.0), mill.0)
+    Bytes(digits).any(|byte| byte == number)
 }
 
 impl<'a> Source for SheetSource<'a> {
@@ -110,6 +88,10 @@ impl<'a> Source for SheetSource<'a> {
     }
 
     fn able(&self, program: Program, mill: Mill) -> bool {
-        lists_pair(self.text, self.mills, program, mill)
+        // no mill is counted where the text is no lawful sheet
+        if self.mills == 0 {
+            return false;
+        }
+        lists(mills_of(self.text, program), mill.0)
     }
 }

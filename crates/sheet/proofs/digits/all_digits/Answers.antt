@@ -1,16 +1,13 @@
-use Rattle.std.proofs.Common.{true, false, is_some, sym, ap, ◌∙◌}
-use Rattle.sheet.proofs.DigitSteps.{digits_more, digits_all}
+use Rattle.std.proofs.Common.{◌&&◌, is_some, ◌∙◌, refl, rules, tests}
+use Rattle.std.specs.List.{list_all}
+use Rattle.std.proofs.lemmas.Iterator.{YieldsList-from_slice}
+use Rattle.std.proofs.lemmas.Iterator.Search.{all_from_yields_List}
+use Rattle.std.proofs.lemmas.List.Recursion.{same_from_clauses}
+use Rattle.sheet.specs.Digits.{digit_of, all_digits}
 use Rattle.sheet.proofs.digits.all_digits.Goals as goal
 
-pub returns-then-is_none : goal.returns-then-is_none
-returns-then-is_none c =
-    let here = sym (ap is_some c.digit_value.ensures) ∙ c.if-is_none.ensures in
-    sym (digits_more c.args.characters.now c.loop-c.c-index false c.loop-c-test.true here) ∙ c.loop-c.invariant
-
-pub loop-c-preserved : goal.loop-c-preserved
-loop-c-preserved c =
-    let here = sym (ap is_some c.digit_value.ensures) ∙ c.if-is_none.ensures in
-    sym (digits_more c.args.characters.now c.loop-c.c-index true c.loop-c-test.true here) ∙ c.loop-c.invariant
-
 pub returns : goal.returns
-returns c = sym (digits_all c.args.characters.now c.loop-c.c-index c.loop-c-test.false) ∙ c.loop-c.invariant
+returns c =
+    let cs = c.args.characters.now in
+    all_from_yields_List (λ k. is_some (digit_of k)) _ _ _ c.all.ensures.ran (YieldsList-from_slice cs cc) (λ x b q k. search (rules, tests))
+    ∙ same_from_clauses (list_all (λ k. is_some (digit_of k))) all_digits (λ k all. is_some (digit_of k) && all) refl (λ _ _. refl) (λ _ _. refl) cs

@@ -1,14 +1,20 @@
-use Rattle.std.proofs.Common.{sym, ◌∙◌}
-use Rattle.sheet.proofs.EntrySteps.{found_here, not_here, found_nowhere}
+use Rattle.std.proofs.Common.{◌≡◌, ℕ, ◌||◌, eqb, ap, ◌∙◌, refl, arith, rules, tests}
+use Rattle.std.specs.List.{list_any}
+use Rattle.std.proofs.lemmas.Bool.Decides.{nat_tests}
+use Rattle.std.proofs.lemmas.Iterator.Consumers.{YieldsList-from_first}
+use Rattle.std.proofs.lemmas.Iterator.Search.{any_from_yields_List}
+use Rattle.std.proofs.lemmas.List.Recursion.{same_from_clauses}
+use Rattle.sets.specs.Sets.{member}
+use Rattle.sheet.specs.Content.{left}
+use Rattle.sheet.specs.Digits.{bytes_of}
 use Rattle.sheet.proofs.source.lists.Goals as goal
 
-pub returns-then-byte_at-number : goal.returns-then-byte_at-number
-returns-then-byte_at-number c =
-    sym (found_here c.args.digits.now c.loop-i.i c.byte_at.result c.args.number c.loop-i-test.true c.byte_at.ensures c.if-byte_at-number.true) ∙ c.loop-i.invariant
-
-pub loop-i-preserved : goal.loop-i-preserved
-loop-i-preserved c =
-    not_here c.args.digits.now c.loop-i.i c.byte_at.result c.args.number c.loop-i-test.true c.byte_at.ensures c.if-byte_at-number.false ∙ c.loop-i.invariant
+eqb_swap : (a b : ℕ) → eqb a b ≡ eqb b a
+eqb_swap a b = grind (arith, nat_tests)
 
 pub returns : goal.returns
-returns c = sym (found_nowhere c.args.digits.now c.loop-i.i c.args.number c.loop-i-test.false) ∙ c.loop-i.invariant
+returns c =
+    let bs = bytes_of c.args.digits.now in
+    let number = c.args.number in
+    any_from_yields_List (λ b. eqb b number) c.any.new.self _ _ c.any.ensures.ran (YieldsList-from_first (λ x. x) left bs refl) (λ x b q k. search (rules, tests))
+    ∙ same_from_clauses (list_any (λ b. eqb b number)) (member number) (λ b found. eqb number b || found) refl (λ b bs. ap (λ t. t || list_any (λ b. eqb b number) bs) (eqb_swap b number)) (λ _ _. refl) bs

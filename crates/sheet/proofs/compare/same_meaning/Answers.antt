@@ -2,7 +2,7 @@ use Rattle.std.proofs.lemmas.Slice.Eq.{slice_eq-Decides}
 use Rattle.std.proofs.lemmas.Result.{err_from_is_err_and}
 use Rattle.sheet.specs.Sheets.{sheet_of}
 use Rattle.sheet.proofs.OneSheetEach.{one_sheet_each_lem, checked_fault, checked_good, left_fault, right_fault, compared}
-use Rattle.sheet.proofs.compare.same_bytes.Goals as goal
+use Rattle.sheet.proofs.compare.same_meaning.Goals as goal
 use Rattle.std.proofs.lemmas.Bool.Decides.{Decides-eqb}
 
 pub returns-in_err-check : goal.returns-in_err-check

@@ -1,7 +1,7 @@
-use Rattle.std.proofs.Common.{sym}
+use Rattle.std.proofs.Common.{sym, refl}
 use Rattle.std.proofs.lemmas.Result.{err_from_is_err_and}
 use Rattle.sheet.proofs.ReaderSteps.{opening_fault, count_fault, sheet_opened}
-use Rattle.sheet.proofs.reader.opening.Goals as goal
+use Rattle.sheet.proofs.reader.SheetReader.open.Goals as goal
 
 pub returns-in_err-frame : goal.returns-in_err-frame
 returns-in_err-frame c =
@@ -16,4 +16,4 @@ returns-in_err-mills c =
 
 pub returns : goal.returns
 returns c =
-    sheet_opened c.args.text.now c.in_ok-frame.frame c.in_ok-frame.rest.now c.in_ok-frame.ensures c.in_ok-mills.mills (sym c.in_ok-mills.ensures)
+    sheet_opened c.args.text.now c.in_ok-frame.frame c.in_ok-frame.rest.now c.in_ok-frame.ensures _ refl refl refl (sym c.in_ok-mills.ensures)
