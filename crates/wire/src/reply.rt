@@ -3,7 +3,7 @@ use board::{Answer, Call, Report};
 use vocabulary::{Mill, Refusal};
 
 /// What a command is answered.
-#[derive(Clone, Copy)]
+#[derive(Clone, Copy, PartialEq, Eq, Debug)]
 pub enum Reply {
     /// A call was performed, with this answer.
     Called { call: Call, answer: Answer },
