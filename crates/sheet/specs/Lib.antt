@@ -1,5 +1,6 @@
 pub mod Digits
 pub mod Lines
+pub mod Kinds
 pub mod Frames
 pub mod Sheets
 pub mod Written

@@ -5,6 +5,7 @@ mod compare;
 mod digits;
 mod frame;
 mod frame_writer;
+mod kind;
 mod line;
 mod reader;
 mod source;
