@@ -8,7 +8,7 @@ use Rattle.sets.specs.Sets.{has}
 use Rattle.sets.specs.declared.number_set.NumberSet.{NumberSet}
 use Rattle.sets.proofs.Holds.{holds-zero}
 use Rattle.capability.specs.Meaning.{Meaning, Lawful}
-use Rattle.capability.specs.Copied.{none, copied}
+use Rattle.capability.specs.Rows.{none, meaning_in}
 
 -- ---- a row: it has the able mills below `mill`
 
@@ -58,7 +58,7 @@ module _ (meaning : Meaning) (law : Lawful meaning) (mills : ℕ) (count : mills
   past p k true high able = absurd (omega (arith, law.program p k able))
   past p k false high able = refl
 
-  pub rows_all : 256 ≤ program → copied (record { mills = mills; rows = rows }) ≡ meaning
+  pub rows_all : 256 ≤ program → meaning_in mills rows ≡ meaning
   rows_all all i = record { mills = count i; able = fun_ext (λ p. fun_ext (λ k. ⊎_elim (below p k) (above p k) (cases_lt p 256))) i }
     where
       below : (p k : ℕ) → p < 256 → has (get_or rows p none) k ≡ meaning.able p k

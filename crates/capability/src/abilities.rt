@@ -1,25 +1,35 @@
 //! What a source means, as a plain table.
 ghost use Rattle.std.specs.Prelude.{◌≡◌, ℕ, ◌&&◌, nat_lt};
 ghost use Rattle.sets.specs.Sets.{has};
-ghost use Rattle.capability.specs.Copied.{copied};
+ghost use Rattle.capability.specs.Meaning.{Lawful};
+ghost use Rattle.capability.specs.Rows.{meaning_in};
 
 use crate::source::Source;
 use sets::NumberSet;
 use vocabulary::{Mill, Program};
 
 /// What a source means, copied: the count of mills, and for each program the set of mills that are able for it.
+/// As of any source, it is lawful.
 #[derive(Clone, Copy)]
 pub struct Abilities {
     mills: u8,
     rows: [NumberSet; 256],
+    pub ghost lawful: { Lawful (meaning_in mills rows) },
 }
 
 impl Abilities {
-    /// Copies what a source means.
+    ghost use Rattle.capability.specs.Copied.{copied};
+
+    /// Copies what a source means: asks it for each of its pairs once.
     pub fn of<S: Source>(source: &S) -> Abilities
         ensures { copied result ≡ S.meaning source.now }
     {
-        copy_of(source)
+        let mills = source.mills();
+        let mut rows = [NumberSet::empty(); 256];
+        for program in 0..256 {
+            rows[program] = row_of(source, Program(program as u8), mills);
+        }
+        Abilities { mills, rows }
     }
 
     /// How many mills there are.
@@ -35,18 +45,6 @@ impl Abilities {
     {
         self.rows[usize::from(program.0)]
     }
-}
-
-/// Asks a source for each of its pairs once.
-fn copy_of<S: Source>(source: &S) -> Abilities
-    ensures { copied result ≡ S.meaning source.now }
-{
-    let mills = source.mills();
-    let mut rows = [NumberSet::empty(); 256];
-    for program in 0..256 {
-        rows[program] = row_of(source, Program(program as u8), mills);
-    }
-    Abilities { mills, rows }
 }
 
 /// The mills that are able for a program, each of the first `mills` mills asked for once.
