@@ -1,29 +1,31 @@
--- The frame of an answer, put to the front of an area.
-use Rattle.std.proofs.Common.{◌≡◌, ℕ, ◌+◌, ◌/◌, ◌%◌, List, [], ◌∷◌, length, sym, ap, ◌∙◌, zero-add}
-use Rattle.vocabulary.specs.declared.numbers.Mill.{Mill}
-use Rattle.sheet.specs.Area.{put}
+-- The frames of an answer: what is written of them byte by byte is what they are.
+use Rattle.std.proofs.Common.{◌≡◌, ℕ, ◌/◌, ◌%◌, ◌<◌, List, get_or, ap, ◌∙◌, subst, arith}
+use Rattle.std.specs.Int.{to_be_bytes, w16, w32}
+use Rattle.sheet.specs.Area.{Appends}
 use Rattle.sheet.specs.Frames.{Frame, frame_text}
-use Rattle.board.specs.declared.call.Answer.{Answer}
-use Rattle.board.specs.declared.call.Answer.TheVariants.{Added}
-use Rattle.board.specs.declared.call.Call.{Call}
-use Rattle.wire.specs.Replies.{call_kind, reply_frame}
-use Rattle.wire.specs.declared.reply.Reply.{Reply}
-use Rattle.wire.specs.declared.reply.Reply.TheVariants.{Called}
+use Rattle.sheet.specs.declared.frame_writer.FrameWriter.{FrameWriter}
 
-pub added_frame : (call : Call) (answer : Answer) (mill : Mill) (count kind high low : ℕ) → answer ≡ Added mill count → kind ≡ call_kind call + 128 → high ≡ count / 256 → low ≡ count % 256 → ◌≡◌ {A = Frame} (record { kind = kind; payload = mill.0 ∷ high ∷ low ∷ [] }) (reply_frame (Called call answer))
-added_frame call answer mill count kind high low is k h l = (λ i. record { kind = k i; payload = mill.0 ∷ h i ∷ l i ∷ [] }) ∙ ap (λ a. reply_frame (Called call a)) (sym is)
+pub framed_as : {before after : FrameWriter} (f g : Frame) → f ≡ g → Appends (frame_text f) before after → Appends (frame_text g) before after
+framed_as {before} {after} f g same wrote = subst (λ h. Appends (frame_text h) before after) same wrote
 
-module _ (f g : Frame) (same : f ≡ g) where
-  pub front_long : (long : ℕ) → long ≡ 0 + length (frame_text f) → long ≡ length (frame_text g)
-  front_long long is = is ∙ zero-add (length (frame_text f)) ∙ ap (λ h. length (frame_text h)) same
+-- the bytes of a number of two bytes
+module _ (n : ℕ) (small : n < 65536) (bytes : List ℕ) (is : bytes ≡ to_be_bytes w16 n) where
+  pub high : get_or bytes 0 0 ≡ n / 256
+  high = ap (λ b. get_or b 0 0) is ∙ omega arith
 
-  pub front_text : (area after : List ℕ) → after ≡ put 0 (frame_text f) area → after ≡ put 0 (frame_text g) area
-  front_text area after is = is ∙ ap (λ h. put 0 (frame_text h) area) same
+  pub low : get_or bytes 1 0 ≡ n % 256
+  low = ap (λ b. get_or b 1 0) is ∙ omega arith
 
--- the answer is this case of it
-module _ (reply case : Reply) (is : reply ≡ case) where
-  pub head_long : (long : ℕ) → long ≡ length (frame_text (reply_frame case)) → long ≡ length (frame_text (reply_frame reply))
-  head_long long so = so ∙ ap (λ r. length (frame_text (reply_frame r))) (sym is)
+-- the bytes of a number of four bytes
+module _ (n : ℕ) (small : n < 4294967296) (bytes : List ℕ) (is : bytes ≡ to_be_bytes w32 n) where
+  pub highest : get_or bytes 0 0 ≡ n / 65536 / 256
+  highest = ap (λ b. get_or b 0 0) is ∙ omega arith
 
-  pub head_text : (area after : List ℕ) → after ≡ put 0 (frame_text (reply_frame case)) area → after ≡ put 0 (frame_text (reply_frame reply)) area
-  head_text area after so = so ∙ ap (λ r. put 0 (frame_text (reply_frame r)) area) (sym is)
+  pub higher : get_or bytes 1 0 ≡ n / 65536 % 256
+  higher = ap (λ b. get_or b 1 0) is ∙ omega arith
+
+  pub lower : get_or bytes 2 0 ≡ n % 65536 / 256
+  lower = ap (λ b. get_or b 2 0) is ∙ omega arith
+
+  pub lowest : get_or bytes 3 0 ≡ n % 65536 % 256
+  lowest = ap (λ b. get_or b 3 0) is ∙ omega arith

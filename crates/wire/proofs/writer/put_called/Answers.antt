@@ -1,10 +1,18 @@
-use Rattle.wire.proofs.HeadSteps.{added_frame, front_long, front_text}
+use Rattle.std.proofs.Common.{◌<◌, [], ◌∷◌, get_or, sym, ap, ◌∙◌, arith}
+use Rattle.wire.specs.Kinds.{reply_code_of}
+use Rattle.wire.specs.Replies.{reply_frame}
+use Rattle.wire.specs.declared.kind.ReplyKind.TheVariants.{Answer}
+use Rattle.wire.specs.declared.reply.Reply.TheVariants.{Called}
+use Rattle.wire.proofs.HeadSteps.{framed_as, high, low}
 use Rattle.wire.proofs.writer.put_called.Goals as goal
 
 pub returns-in-Added : goal.returns-in-Added
 returns-in-Added c =
-    let is = added_frame c.args.call c.args.answer c.in-Added.mill c.in-Added.count c.answer_kind-kind.result c.high.result c.low.result c.in-Added.is c.answer_kind-kind.ensures c.high.ensures c.low.ensures in
-    record {
-      long = front_long _ _ is c.put_frame.result c.put_frame.ensures.behind;
-      text = front_text _ _ is c.args.area.now c.put_frame.new.area c.put_frame.ensures.text;
-    }
+    let n = c.in-Added.count in
+    let small : n < 65536 = omega arith in
+    let bytes = c.to_be_bytes.result in
+    let kind = c.into-kind.ensures ∙ ap (λ k. reply_code_of (Answer k)) c.into.ensures in
+    framed_as (record { kind = c.into-kind.result; payload = c.in-Added.mill.0 ∷ get_or bytes 0 0 ∷ get_or bytes 1 0 ∷ [] }) (reply_frame (Called c.args.call c.args.answer))
+    ((λ i. record { kind = kind i; payload = c.in-Added.mill.0 ∷ high n small bytes c.to_be_bytes.ensures i ∷ low n small bytes c.to_be_bytes.ensures i ∷ [] })
+    ∙ ap (λ a. reply_frame (Called c.args.call a)) (sym c.in-Added.is))
+    c.frame.ensures
