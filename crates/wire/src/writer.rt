@@ -1,15 +1,15 @@
 //! The answer writer: puts the lines of an answer into a text area.
-ghost use Rattle.std.specs.Prelude.{◌≡◌, ◌+◌, ◌*◌, ◌≤◌, ◌++◌, length, drop};
+ghost use Rattle.std.specs.Prelude.{◌≡◌, ◌+◌, ◌*◌, ◌≤◌, ◌∷◌, ◌++◌, length, drop};
 ghost use Rattle.sheet.specs.Area.{HasRoom, Appends};
 ghost use Rattle.sheet.specs.Frames.{frame_text};
 ghost use Rattle.wire.specs.declared.reply.Reply.TheVariants.{Called, Reported, Refused};
-ghost use Rattle.wire.specs.Replies.{reply_frame, move_frame, moves_told, moves_text, reply_text};
+ghost use Rattle.wire.specs.Replies.{reply_frame, move_frame, moves_told, moves_text, reply_text, two_bytes};
 
 use crate::kind::{CommandKind, ReplyKind};
 use crate::reply::Reply;
 use board::{Answer, Call, Move, Report};
 use sheet::FrameWriter;
-use vocabulary::Refusal;
+use vocabulary::{Mill, Refusal};
 
 /// The length of area that serves for any answer.
 pub const AREA: usize = 16_384;
@@ -27,16 +27,45 @@ fn moves_told(reply: Reply) -> usize
     }
 }
 
+/// What the frame of a moved ticket carries.
+fn move_payload(moved: Move) -> [u8; 4]
+    ensures { result ≡ (move_frame moved).payload }
+{
+    let [high, low] = moved.ticket.0.to_be_bytes();
+    [high, low, moved.from.0, moved.to.0]
+}
+
+/// What the frame of an added ticket carries.
+fn added_payload(mill: Mill, count: u16) -> [u8; 3]
+    ensures { result ≡ mill.0 ∷ two_bytes count }
+{
+    let [high, low] = count.to_be_bytes();
+    [mill.0, high, low]
+}
+
+/// What the frame of a report carries.
+fn report_payload(report: Report) -> [u8; 7]
+    ensures { result ≡ (reply_frame (Reported report)).payload }
+{
+    let [high, low] = report.highest_load.to_be_bytes();
+    let [highest, higher, lower, lowest] = report.flow_time.to_be_bytes();
+    [high, low, report.busy_mills, highest, higher, lower, lowest]
+}
+
+/// What the frame of a refusal carries.
+fn refusal_payload(refusal: Refusal) -> [u8; 3]
+    ensures { result ≡ (reply_frame (Refused refusal)).payload }
+{
+    let [high, low] = refusal.place().to_be_bytes();
+    [refusal.number(), high, low]
+}
+
 /// Writes the line of a moved ticket, and nothing else.
 fn put_move(frames: &mut FrameWriter<'_>, moved: Move)
     requires { HasRoom 15 frames.old }
     ensures { Appends (frame_text (move_frame moved)) frames.old frames.new }
 {
-    let [high, low] = moved.ticket.0.to_be_bytes();
-    frames.frame(
-        ReplyKind::Moved.into(),
-        &[high, low, moved.from.0, moved.to.0],
-    );
+    frames.frame(ReplyKind::Moved.into(), &move_payload(moved));
 }
 
 /// Writes the answer to a call, and nothing else.
@@ -46,34 +75,9 @@ fn put_called(frames: &mut FrameWriter<'_>, call: Call, answer: Answer)
 {
     let kind = ReplyKind::Answer(call.into()).into();
     match answer {
-        Answer::Added { mill, count } => {
-            let [high, low] = count.to_be_bytes();
-            frames.frame(kind, &[mill.0, high, low]);
-        }
+        Answer::Added { mill, count } => frames.frame(kind, &added_payload(mill, count)),
         Answer::Moved { count } => frames.frame(kind, &count.to_be_bytes()),
     }
-}
-
-/// Writes a report, and nothing else.
-fn put_report(frames: &mut FrameWriter<'_>, report: Report)
-    requires { HasRoom 21 frames.old }
-    ensures { Appends (frame_text (reply_frame (Reported report))) frames.old frames.new }
-{
-    let [high, low] = report.highest_load.to_be_bytes();
-    let [highest, higher, lower, lowest] = report.flow_time.to_be_bytes();
-    frames.frame(
-        ReplyKind::Answer(CommandKind::Report).into(),
-        &[high, low, report.busy_mills, highest, higher, lower, lowest],
-    );
-}
-
-/// Writes a refusal, and nothing else.
-fn put_refusal(frames: &mut FrameWriter<'_>, refusal: Refusal)
-    requires { HasRoom 21 frames.old }
-    ensures { Appends (frame_text (reply_frame (Refused refusal))) frames.old frames.new }
-{
-    let [high, low] = refusal.place().to_be_bytes();
-    frames.frame(ReplyKind::Refused.into(), &[refusal.number(), high, low]);
 }
 
 /// Writes the first line of an answer, and nothing else.
@@ -86,10 +90,16 @@ fn put_head(frames: &mut FrameWriter<'_>, reply: Reply)
         Reply::Stands { mill } => {
             frames.frame(ReplyKind::Answer(CommandKind::Where).into(), &[mill.0])
         }
-        Reply::Reported { report } => put_report(frames, report),
+        Reply::Reported { report } => frames.frame(
+            ReplyKind::Answer(CommandKind::Report).into(),
+            &report_payload(report),
+        ),
         Reply::Struck => frames.frame(ReplyKind::Answer(CommandKind::Strike).into(), &[]),
         Reply::Aliased => frames.frame(ReplyKind::Answer(CommandKind::Alias).into(), &[]),
-        Reply::Refused { refusal } => put_refusal(frames, refusal),
+        Reply::Refused { refusal } => frames.frame(
+            ReplyKind::Refused.into(),
+            &refusal_payload(refusal),
+        ),
     }
 }
 
