@@ -1,7 +1,7 @@
 -- What writing a sheet answers: why it is refused, and what the area holds when it is not.
 use Rattle.std.proofs.Common.{◌≡◌, ℕ, ◌<◌, ◌≤◌, cond, eqb, ltb, List, ◌++◌, length, take, drop, Some, None, Option, Result, sym, refl, ap, ◌∙◌, subst, arith, MatchResult}
 use Rattle.std.proofs.lemmas.List.{take_at}
-use Rattle.std.proofs.lemmas.Bool.{cond-true, cond-false, eq-eqb, ne_eqb, lt-ltb, le-ltb}
+use Rattle.std.proofs.lemmas.Bool.{cond-true, cond-false, ne_eqb, lt-ltb, le-ltb}
 use Rattle.vocabulary.specs.declared.refusal.Refusal.{Refusal}
 use Rattle.vocabulary.specs.declared.refusal.Refusal.TheVariants.{ShortArea, NoMills}
 use Rattle.capability.specs.Meaning.{Meaning}
@@ -33,9 +33,6 @@ module _ (abilities : Abilities) where
   same_length = ap length same_text
 
   module _ (mills : ℕ) (count : mills ≡ (copied abilities).mills) (room : ℕ) where
-    pub without_mills : mills ≡ 0 → unwritten (copied abilities) room ≡ Some NoMills
-    without_mills none = cond-true _ _ _ (eq-eqb (copied abilities).mills 0 (sym count ∙ none))
-
     module _ (some : mills ≡ 0 → ⊥) (needed : ℕ) (is : needed ≡ length (sheet_for abilities)) where
       has_mills : (copied abilities).mills ≡ 0 → ⊥
       has_mills none = some (count ∙ none)

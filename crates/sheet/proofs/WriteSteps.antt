@@ -47,10 +47,6 @@ pub length_sheet : (abilities : Abilities) → length (sheet_for abilities) ≡ 
 unfolding sheet_for entries_of
 length_sheet abilities = length_parts (copied abilities) 256
 
-pub length_counted : (abilities : Abilities) (n entries : ℕ) → n ≡ 256 → entries ≡ length (entries_of abilities n) → 9 + entries + 7 ≡ length (sheet_for abilities)
-length_counted abilities n entries all is =
-    ap (λ k. 9 + k + 7) (is ∙ ap (λ k. length (entries_of abilities k)) all) ∙ sym (length_sheet abilities)
-
 -- fewer programs have no longer lines
 pub entries_upto : (abilities : Abilities) (n m : ℕ) → n ≤ m → length (entries_of abilities n) ≤ length (entries_of abilities m)
 entries_upto abilities n zero le = let none : n ≡ 0 = omega arith in omega (arith, ap (λ k. length (entries_of abilities k)) none)

@@ -10,6 +10,7 @@ fn digit_for(n: u8) -> u8
     requires { n < 16 }
     ensures { result ≡ digit_for n }
 {
+    // Not `char::from_digit`: its letters are lower-case.
     if n < 10 { b'0' + n } else { b'A' - 10 + n }
 }
 

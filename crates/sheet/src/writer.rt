@@ -28,6 +28,7 @@ fn entries_len(abilities: &Abilities) -> usize
     ensures value { result ≡ length (entries_of abilities.now 256) }
     ensures short { result ≤ 35072 }
 {
+    // Not `sum`: the library does not say what an inclusive range yields.
     let mut entries = 0;
     for program in 0..=255 {
         entries += entry_len(abilities, Program(program));

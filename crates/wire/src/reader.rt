@@ -77,6 +77,7 @@ fn setup_frame(frame: RawFrame<'_>) -> Result<SetupCommand, Refusal>
 pub fn board_command(line: &[u8]) -> Result<BoardCommand, Refusal>
     ensures { result ≡ board_command_in line.now }
 {
+    // As in `setup_command`: one function for both would take `board_frame` as a closure, and be no shorter.
     let asked = only_frame(line, 0)?;
     board_frame(asked)
 }
