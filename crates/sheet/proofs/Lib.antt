@@ -20,6 +20,7 @@ pub mod ReaderSteps
 pub mod EntrySteps
 pub mod OneSheetEach
 pub mod PutLaws
+pub mod AppendSteps
 pub mod FrameWriteSteps
 pub mod RowLaws
 pub mod WriteSteps

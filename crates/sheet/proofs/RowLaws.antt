@@ -4,7 +4,6 @@ use Rattle.std.specs.List.{range_with_len}
 use Rattle.std.proofs.lemmas.List.{nil_from_length}
 use Rattle.sets.specs.Sets.{numbers, has, members}
 use Rattle.sets.specs.declared.number_set.NumberSet.{NumberSet}
-use Rattle.sets.proofs.Rising.{length-numbers_le}
 use Rattle.capability.specs.Meaning.{Meaning, Lawful}
 use Rattle.capability.specs.Copied.{copied}
 use Rattle.capability.specs.declared.abilities.Abilities.{Abilities}
@@ -32,9 +31,9 @@ module _ (m : Meaning) (law : Lawful m) (p : ℕ) where
   numbers_mills f bound few is =
       kept_same f (m.able p) 0 bound (λ k _ _. is k) ∙ kept_past (m.able p) 0 m.mills bound few (λ k high. above k (m.able p k) refl (omega arith))
 
-module _ (abilities : Abilities) (law : Lawful (copied abilities)) (p : ℕ) (row : NumberSet) (is : (k : ℕ) → has row k ≡ (copied abilities).able p k) where
+module _ (abilities : Abilities) (p : ℕ) (row : NumberSet) (is : (k : ℕ) → has row k ≡ (copied abilities).able p k) where
   row_mills : mills_for (copied abilities) p ≡ members row
-  row_mills = sym (numbers_mills (copied abilities) law p (has row) 64 law.few is)
+  row_mills = sym (numbers_mills (copied abilities) abilities.lawful p (has row) 64 abilities.lawful.few is)
 
   -- a program with no mill has no line
   pub entry_none : length (members row) ≡ 0 → entry_of abilities p ≡ []
@@ -52,13 +51,10 @@ module _ (abilities : Abilities) (law : Lawful (copied abilities)) (p : ℕ) (ro
   pub length_some : (length (members row) ≡ 0 → ⊥) → length (entry_of abilities p) ≡ 2 * (length (members row) + 4) + 1
   length_some some = ap length (entry_some some) ∙ length_frame (record { kind = 2; payload = p ∷ members row }) ∙ omega arith
 
-  -- the bytes that its frame carries
-  module _ (some : length (members row) ≡ 0 → ⊥) (payload : List ℕ) (bytes : payload ≡ p ∷ members row) where
-    pub entry_frame : frame_text (record { kind = 2; payload = payload }) ≡ entry_of abilities p
-    entry_frame = ap (λ bs. frame_text (record { kind = 2; payload = bs })) bytes ∙ sym (entry_some some)
-
-    pub payload_few : length payload ≤ 255
-    payload_few = omega (arith, ap length bytes, length-numbers_le (has row) 64)
+  -- the frame that carries it
+  module _ (some : length (members row) ≡ 0 → ⊥) (kind : ℕ) (payload : List ℕ) (is_two : kind ≡ 2) (bytes : payload ≡ p ∷ members row) where
+    pub entry_frame : frame_text (record { kind = kind; payload = payload }) ≡ entry_of abilities p
+    entry_frame = (λ i. frame_text (record { kind = is_two i; payload = bytes i })) ∙ sym (entry_some some)
 
     pub payload_room : length (entry_of abilities p) ≡ 2 * (length payload + 3) + 1
     payload_room = omega (arith, ap length bytes, length_some some)

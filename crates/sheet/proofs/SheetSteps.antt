@@ -1,10 +1,10 @@
 -- What writing a sheet answers: why it is refused, and what the area holds when it is not.
 use Rattle.std.proofs.Common.{◌≡◌, ℕ, ◌<◌, ◌≤◌, cond, eqb, ltb, List, ◌++◌, length, take, drop, Some, None, Option, Result, sym, refl, ap, ◌∙◌, subst, arith, MatchResult}
 use Rattle.std.proofs.lemmas.List.{take_at}
-use Rattle.std.proofs.lemmas.Bool.{cond-true, cond-false, eq-eqb, ne_eqb, lt-ltb, le-ltb}
+use Rattle.std.proofs.lemmas.Bool.{cond-true, cond-false, ne_eqb, lt-ltb, le-ltb}
 use Rattle.vocabulary.specs.declared.refusal.Refusal.{Refusal}
 use Rattle.vocabulary.specs.declared.refusal.Refusal.TheVariants.{ShortArea, NoMills}
-use Rattle.capability.specs.Meaning.{Meaning, Lawful}
+use Rattle.capability.specs.Meaning.{Meaning}
 use Rattle.capability.specs.Copied.{copied}
 use Rattle.capability.specs.declared.abilities.Abilities.{Abilities}
 use Rattle.sheet.specs.Area.{put, unwritten, Wrote}
@@ -24,7 +24,7 @@ too_short mills room long some short = cond-false _ _ _ (ne_eqb mills 0 some) �
 long_enough : (mills room long : ℕ) → (mills ≡ 0 → ⊥) → long ≤ room → refusal mills room long ≡ None
 long_enough mills room long some enough = cond-false _ _ _ (ne_eqb mills 0 some) ∙ cond-false _ _ _ (le-ltb room long enough)
 
-module _ (abilities : Abilities) (area : List ℕ) where
+module _ (abilities : Abilities) where
   same_text : sheet_for abilities ≡ sheet_text (copied abilities)
   unfolding sheet_for
   same_text = refl
@@ -32,33 +32,33 @@ module _ (abilities : Abilities) (area : List ℕ) where
   same_length : length (sheet_for abilities) ≡ length (sheet_text (copied abilities))
   same_length = ap length same_text
 
-  module _ (mills : ℕ) (count : mills ≡ (copied abilities).mills) where
-    pub without_mills : mills ≡ 0 → unwritten (copied abilities) (length area) ≡ Some NoMills
-    without_mills none = cond-true _ _ _ (eq-eqb (copied abilities).mills 0 (sym count ∙ none))
-
-    module _ (some : mills ≡ 0 → ⊥) where
+  module _ (mills : ℕ) (count : mills ≡ (copied abilities).mills) (room : ℕ) where
+    module _ (some : mills ≡ 0 → ⊥) (needed : ℕ) (is : needed ≡ length (sheet_for abilities)) where
       has_mills : (copied abilities).mills ≡ 0 → ⊥
       has_mills none = some (count ∙ none)
 
-      pub without_room : (needed : ℕ) → needed ≡ length (sheet_for abilities) → length area < needed → unwritten (copied abilities) (length area) ≡ Some (ShortArea needed)
-      without_room needed is short =
-          too_short (copied abilities).mills (length area) (length (sheet_text (copied abilities))) has_mills (subst (λ n. length area < n) (is ∙ same_length) short)
-          ∙ ap (λ n. Some (ShortArea n)) (sym (is ∙ same_length))
+      long : needed ≡ length (sheet_text (copied abilities))
+      long = is ∙ same_length
 
-      pub with_room : (needed : ℕ) → needed ≡ length (sheet_for abilities) → needed ≤ length area → unwritten (copied abilities) (length area) ≡ None
-      with_room needed is enough =
-          long_enough (copied abilities).mills (length area) (length (sheet_text (copied abilities))) has_mills (subst (λ n. n ≤ length area) (is ∙ same_length) enough)
+      pub without_room : room < needed → unwritten (copied abilities) room ≡ Some (ShortArea needed)
+      without_room short =
+          too_short (copied abilities).mills room (length (sheet_text (copied abilities))) has_mills (subst (λ n. room < n) long short)
+          ∙ ap (λ n. Some (ShortArea n)) (sym long)
 
-      pub wrote : Lawful (copied abilities) → (long : ℕ) (after : List ℕ) → long ≡ length (sheet_for abilities) → long ≤ 35088 → after ≡ put 0 (sheet_for abilities) area → Wrote (copied abilities) area long after
-      wrote law long after is short text =
+      pub with_room : needed ≤ room → unwritten (copied abilities) room ≡ None
+      with_room enough =
+          long_enough (copied abilities).mills room (length (sheet_text (copied abilities))) has_mills (subst (λ n. n ≤ room) long enough)
+
+      pub wrote : (before after : List ℕ) → needed ≤ 35088 → after ≡ put 0 (sheet_for abilities) before → Wrote (copied abilities) before needed after
+      wrote before after short text =
           let meant = copied abilities in
           let back = sym is in
-          let whole : after ≡ sheet_text meant ++ drop long area = text ∙ put_front (sheet_for abilities) area ∙ (λ i. same_text i ++ drop (back i) area) in
+          let whole : after ≡ sheet_text meant ++ drop needed before = text ∙ put_front (sheet_for abilities) before ∙ (λ i. same_text i ++ drop (back i) before) in
           record {
-            length_is = is ∙ same_length;
+            length_is = long;
             short = short;
             text = whole;
-            reads_back = ap (λ t. sheet_of (take long t)) whole ∙ ap sheet_of (take_at (sheet_text meant) (drop long area) long (sym (is ∙ same_length))) ∙ read_back meant law (omega arith);
+            reads_back = ap (λ t. sheet_of (take needed t)) whole ∙ ap sheet_of (take_at (sheet_text meant) (drop needed before) needed (sym long)) ∙ read_back meant abilities.lawful (omega arith);
           }
 
 -- what is answered of copied abilities is answered of what they were copied from

@@ -13,7 +13,7 @@ mod writer;
 
 pub use compare::same_meaning;
 pub use digits::byte_at;
-pub use frame_writer::put_frame;
+pub use frame_writer::FrameWriter;
 pub use line::{RawFrame, first_frame, only_frame};
 pub use reader::check;
 pub use source::SheetSource;

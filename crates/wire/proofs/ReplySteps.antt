@@ -1,10 +1,10 @@
--- The lines of an answer one behind the other: its first line, and those of the moved tickets.
-use Rattle.std.proofs.Common.{◌≡◌, ℕ, ◌+◌, ◌*◌, ◌≤◌, List, ◌++◌, length, drop, sym, ap, ◌∙◌, arith}
+-- How long an answer is: its first line, and those of the moved tickets.
+use Rattle.std.proofs.Common.{◌≡◌, ℕ, ◌+◌, ◌*◌, ◌≤◌, List, ◌++◌, length, drop, ap, ◌∙◌, arith}
 use Rattle.std.proofs.lemmas.List.{length-append}
 use Rattle.sheet.specs.Area.{put}
 use Rattle.sheet.specs.Frames.{frame_text}
 use Rattle.sheet.proofs.FrameLaws.{length_frame}
-use Rattle.sheet.proofs.PutLaws.{put_front, put-put}
+use Rattle.sheet.proofs.PutLaws.{put_front}
 use Rattle.board.specs.declared.call.Answer.TheVariants.{Added, Moved}
 use Rattle.board.specs.declared.moves.Move.{Move}
 use Rattle.wire.specs.Replies.{reply_frame, moves_text}
@@ -25,23 +25,11 @@ few_bytes (Refused refusal) = omega arith
 pub length_head : (reply : Reply) → length (frame_text (reply_frame reply)) ≤ 21
 length_head reply = omega (arith, length_frame (reply_frame reply), few_bytes reply)
 
-module _ (reply : Reply) (moves : List Move) (head : ℕ) (behind_head : head ≡ length (frame_text (reply_frame reply))) where
-  abbrev first : List ℕ
-  first = frame_text (reply_frame reply)
+pub length_lines : (reply : Reply) (moves : List Move) → length (frame_text (reply_frame reply) ++ moves_text moves) ≤ 21 + 15 * length moves
+length_lines reply moves = omega (arith, length-append (frame_text (reply_frame reply)) (moves_text moves), length_head reply, length_moves moves)
 
-  pub moves_room : (area : List ℕ) → 21 + 15 * length moves ≤ length area → (a : List ℕ) → length a ≡ length area → head + 15 * length moves ≤ length a
-  moves_room area room a long = omega (arith, length_head reply)
-
-  module _ (end : ℕ) (behind_moves : end ≡ head + length (moves_text moves)) where
-    pub lines_long : end ≡ length (first ++ moves_text moves)
-    lines_long = behind_moves ∙ ap (λ n. n + length (moves_text moves)) behind_head ∙ sym (length-append first (moves_text moves))
-
-    pub lines_short : end ≤ 21 + 15 * length moves
-    lines_short = omega (arith, length_head reply, length_moves moves)
-
-    pub lines_text : (area a after : List ℕ) → a ≡ put 0 first area → after ≡ put head (moves_text moves) a → after ≡ (first ++ moves_text moves) ++ drop end area
-    lines_text area a after is then =
-        then ∙ ap (put head (moves_text moves)) is
-        ∙ put-put 0 head first (moves_text moves) area (omega arith) (omega arith)
-        ∙ put_front (first ++ moves_text moves) area
-        ∙ ap (λ n. (first ++ moves_text moves) ++ drop n area) (sym lines_long)
+-- what a writer leaves of an area that it began at the front of
+pub front_text : {after : List ℕ} (text area began now : List ℕ) (at behind long : ℕ) → at ≡ 0 → began ≡ area → now ≡ put at text began → behind ≡ at + length text → long ≡ behind → after ≡ now → after ≡ text ++ drop long area
+front_text text area began now at behind long front same is ends told left =
+    let back : length text ≡ long = omega arith in
+    left ∙ is ∙ (λ i. put (front i) text (same i)) ∙ put_front text area ∙ ap (λ n. text ++ drop n area) back

@@ -1,3 +1,4 @@
+pub mod Kinds
 pub mod Commands
 pub mod Replies
 pub mod Theorems

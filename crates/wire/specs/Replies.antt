@@ -1,12 +1,15 @@
 -- The lines of an answer: one frame by its case, and then a frame for each ticket that was moved.
-use Rattle.std.specs.Prelude.{ℕ, ◌+◌, ◌/◌, ◌%◌, List, [], ◌∷◌, ◌++◌, take}
+use Rattle.std.specs.Prelude.{ℕ, ◌/◌, ◌%◌, List, [], ◌∷◌, ◌++◌, take}
 use Rattle.std.specs.List.{flat_map}
 use Rattle.vocabulary.specs.Told.{told}
 use Rattle.sheet.specs.Frames.{Frame, frame_text}
 use Rattle.board.specs.declared.call.Answer.TheVariants.{Added, Moved}
 use Rattle.board.specs.declared.call.Call.{Call}
-use Rattle.board.specs.declared.call.Call.TheVariants.{Add, Done, Withdraw, Return}
 use Rattle.board.specs.declared.moves.Move.{Move}
+use Rattle.wire.specs.Kinds.{code_of, kind_of, reply_code_of}
+use Rattle.wire.specs.declared.kind.CommandKind.TheVariants as kind
+use Rattle.wire.specs.declared.kind.ReplyKind.TheVariants as reply
+use Rattle.wire.specs.declared.kind.ReplyKind.TheVariants.{Answer}
 use Rattle.wire.specs.declared.reply.Reply.{Reply}
 use Rattle.wire.specs.declared.reply.Reply.TheVariants.{Called, Stands, Reported, Struck, Aliased, Refused}
 
@@ -17,26 +20,23 @@ two_bytes n = n / 256 ∷ n % 256 ∷ []
 abbrev pub four_bytes : ℕ → List ℕ
 four_bytes n = two_bytes (n / 65536) ++ two_bytes (n % 65536)
 
--- the kind of a call's frame: 11 to 14 in hexadecimal
+-- the byte of the kind of a call's frame
 abbrev pub call_kind : Call → ℕ
-call_kind (Add ticket program) = 17
-call_kind (Done ticket) = 18
-call_kind (Withdraw mill) = 19
-call_kind (Return mill) = 20
+call_kind call = code_of (kind_of call)
 
--- the frame of an answer: its kind is the command's and 80 in hexadecimal, or E0 of a refusal
+-- the frame of an answer
 abbrev pub reply_frame : Reply → Frame
-reply_frame (Called call (Added mill count)) = record { kind = call_kind call + 128; payload = mill.0 ∷ two_bytes count }
-reply_frame (Called call (Moved count)) = record { kind = call_kind call + 128; payload = two_bytes count }
-reply_frame (Stands mill) = record { kind = 149; payload = mill.0 ∷ [] }
-reply_frame (Reported report) = record { kind = 150; payload = two_bytes report.highest_load ++ (report.busy_mills ∷ four_bytes report.flow_time) }
-reply_frame Struck = record { kind = 161; payload = [] }
-reply_frame Aliased = record { kind = 162; payload = [] }
-reply_frame (Refused refusal) = record { kind = 224; payload = (told refusal).number ∷ two_bytes (told refusal).place }
+reply_frame (Called call (Added mill count)) = record { kind = reply_code_of (Answer (kind_of call)); payload = mill.0 ∷ two_bytes count }
+reply_frame (Called call (Moved count)) = record { kind = reply_code_of (Answer (kind_of call)); payload = two_bytes count }
+reply_frame (Stands mill) = record { kind = reply_code_of (Answer kind.Where); payload = mill.0 ∷ [] }
+reply_frame (Reported report) = record { kind = reply_code_of (Answer kind.Report); payload = two_bytes report.highest_load ++ (report.busy_mills ∷ four_bytes report.flow_time) }
+reply_frame Struck = record { kind = reply_code_of (Answer kind.Strike); payload = [] }
+reply_frame Aliased = record { kind = reply_code_of (Answer kind.Alias); payload = [] }
+reply_frame (Refused refusal) = record { kind = reply_code_of reply.Refused; payload = (told refusal).number ∷ two_bytes (told refusal).place }
 
--- the frame of a moved ticket, A0 in hexadecimal: the ticket, the mill before the call and the one after it
+-- the frame of a moved ticket: the ticket, the mill before the call and the one after it
 abbrev pub move_frame : Move → Frame
-move_frame r = record { kind = 160; payload = two_bytes r.ticket.0 ++ (r.from.0 ∷ r.to.0 ∷ []) }
+move_frame r = record { kind = reply_code_of reply.Moved; payload = two_bytes r.ticket.0 ++ (r.from.0 ∷ r.to.0 ∷ []) }
 
 -- how many moved tickets an answer tells
 abbrev pub moves_told : Reply → ℕ

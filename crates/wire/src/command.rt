@@ -3,7 +3,7 @@ use board::Call;
 use vocabulary::{Mill, Program, Ticket};
 
 /// A command to a board: a call, or a question.
-#[derive(Clone, Copy)]
+#[derive(Clone, Copy, PartialEq, Eq, Debug)]
 pub enum BoardCommand {
     /// Perform a call.
     Perform { call: Call },
@@ -14,7 +14,7 @@ pub enum BoardCommand {
 }
 
 /// A command while the board is not open: an entry of a table, or any command to a board.
-#[derive(Clone, Copy)]
+#[derive(Clone, Copy, PartialEq, Eq, Debug)]
 pub enum SetupCommand {
     /// Strike a mill out for a program.
     Strike { program: Program, mill: Mill },

@@ -2,6 +2,7 @@
 #![tactic(auto)]
 
 mod command;
+mod kind;
 mod reader;
 mod reply;
 mod theorems;

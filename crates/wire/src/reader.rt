@@ -2,9 +2,10 @@
 ghost use Rattle.std.specs.Prelude.{◌≡◌, ◌+◌, ◌*◌, ◌<◌, length};
 ghost use Rattle.sheet.specs.Digits.{bytes_of};
 ghost use Rattle.sheet.specs.Content.{content};
-ghost use Rattle.wire.specs.Commands.{word_at, board_command_of, for_board, setup_command_of, board_command_in, setup_command_in};
+ghost use Rattle.wire.specs.Commands.{word_at, board_command_of, setup_command_of, board_command_in, setup_command_in};
 
 use crate::command::{BoardCommand, SetupCommand};
+use crate::kind::CommandKind;
 use board::Call;
 use sheet::{RawFrame, byte_at, only_frame};
 use vocabulary::{Mill, Program, Refusal, Ticket};
@@ -14,7 +15,7 @@ fn word_at(digits: &[u8], index: usize) -> u16
     requires { 2 * index + 3 < length digits.now }
     ensures { result ≡ word_at (bytes_of digits.now) index }
 {
-    u16::from(byte_at(digits, index)) * 256 + u16::from(byte_at(digits, index + 1))
+    u16::from_be_bytes([byte_at(digits, index), byte_at(digits, index + 1)])
 }
 
 /// What a frame asks of a board, by its kind and the length of its payload.
@@ -22,42 +23,34 @@ fn board_frame(frame: RawFrame<'_>) -> Result<BoardCommand, Refusal>
     ensures { result ≡ board_command_of (content frame.entry) }
 {
     let payload = frame.payload;
-    match (frame.kind, payload.len() / 2) {
-        (0x11, 3) => Ok(BoardCommand::Perform {
+    match (CommandKind::try_from(frame.kind)?, payload.len() / 2) {
+        (CommandKind::Add, 3) => Ok(BoardCommand::Perform {
             call: Call::Add {
                 ticket: Ticket(word_at(payload, 0)),
                 program: Program(byte_at(payload, 2)),
             },
         }),
-        (0x12, 2) => Ok(BoardCommand::Perform {
+        (CommandKind::Done, 2) => Ok(BoardCommand::Perform {
             call: Call::Done {
                 ticket: Ticket(word_at(payload, 0)),
             },
         }),
-        (0x13, 1) => Ok(BoardCommand::Perform {
+        (CommandKind::Withdraw, 1) => Ok(BoardCommand::Perform {
             call: Call::Withdraw {
                 mill: Mill(byte_at(payload, 0)),
             },
         }),
-        (0x14, 1) => Ok(BoardCommand::Perform {
+        (CommandKind::Return, 1) => Ok(BoardCommand::Perform {
             call: Call::Return {
                 mill: Mill(byte_at(payload, 0)),
             },
         }),
-        (0x15, 2) => Ok(BoardCommand::Where {
+        (CommandKind::Where, 2) => Ok(BoardCommand::Where {
             ticket: Ticket(word_at(payload, 0)),
         }),
-        (0x16, 0) => Ok(BoardCommand::Report),
+        (CommandKind::Report, 0) => Ok(BoardCommand::Report),
         _ => Err(Refusal::NotDue { line: 0 }),
     }
-}
-
-/// What a frame asks of the board, as a command while the board is not open.
-fn left_to_board(frame: RawFrame<'_>) -> Result<SetupCommand, Refusal>
-    ensures { result ≡ for_board (board_command_of (content frame.entry)) }
-{
-    let command = board_frame(frame)?;
-    Ok(SetupCommand::Board { command })
 }
 
 /// What a frame asks while the board is not open: an entry of a table, or whatever it asks of a board.
@@ -65,16 +58,18 @@ fn setup_frame(frame: RawFrame<'_>) -> Result<SetupCommand, Refusal>
     ensures { result ≡ setup_command_of (content frame.entry) }
 {
     let payload = frame.payload;
-    match (frame.kind, payload.len() / 2) {
-        (0x21, 2) => Ok(SetupCommand::Strike {
+    match (CommandKind::try_from(frame.kind)?, payload.len() / 2) {
+        (CommandKind::Strike, 2) => Ok(SetupCommand::Strike {
             program: Program(byte_at(payload, 0)),
             mill: Mill(byte_at(payload, 1)),
         }),
-        (0x22, 2) => Ok(SetupCommand::Alias {
+        (CommandKind::Alias, 2) => Ok(SetupCommand::Alias {
             program: Program(byte_at(payload, 0)),
             cut_as: Program(byte_at(payload, 1)),
         }),
-        _ => left_to_board(frame),
+        _ => Ok(SetupCommand::Board {
+            command: board_frame(frame)?,
+        }),
     }
 }
 
@@ -82,6 +77,7 @@ fn setup_frame(frame: RawFrame<'_>) -> Result<SetupCommand, Refusal>
 pub fn board_command(line: &[u8]) -> Result<BoardCommand, Refusal>
     ensures { result ≡ board_command_in line.now }
 {
+    // As in `setup_command`: one function for both would take `board_frame` as a closure, and be no shorter.
     let asked = only_frame(line, 0)?;
     board_frame(asked)
 }

@@ -3,7 +3,7 @@ use board::{Answer, Call, Report};
 use vocabulary::{Mill, Refusal};
 
 /// What a command is answered.
-#[derive(Clone, Copy)]
+#[derive(Clone, Copy, PartialEq, Eq, Debug)]
 pub enum Reply {
     /// A call was performed, with this answer.
     Called { call: Call, answer: Answer },
@@ -17,4 +17,15 @@ pub enum Reply {
     Aliased,
     /// The command is refused.
     Refused { refusal: Refusal },
+}
+
+impl From<Refusal> for Reply {
+    ghost use Rattle.std.specs.Prelude.{◌≡◌};
+    ghost use Rattle.wire.specs.declared.reply.Reply.TheVariants.{Refused};
+
+    ghost from_gives = { λ refusal reply. reply ≡ Refused refusal };
+
+    fn from(refusal: Refusal) -> Reply {
+        Reply::Refused { refusal }
+    }
 }

@@ -1,43 +1,18 @@
 //! The answer writer: puts the lines of an answer into a text area.
-ghost use Rattle.std.specs.Prelude.{◌≡◌, ◌+◌, ◌*◌, ◌/◌, ◌%◌, ◌≤◌, ◌++◌, length, drop};
-ghost use Rattle.sheet.specs.Area.{put};
+ghost use Rattle.std.specs.Prelude.{◌≡◌, ◌+◌, ◌*◌, ◌≤◌, ◌∷◌, ◌++◌, length, drop};
+ghost use Rattle.sheet.specs.Area.{HasRoom, Appends};
 ghost use Rattle.sheet.specs.Frames.{frame_text};
 ghost use Rattle.wire.specs.declared.reply.Reply.TheVariants.{Called, Reported, Refused};
-ghost use Rattle.wire.specs.Replies.{call_kind, reply_frame, move_frame, moves_told, moves_text, reply_text};
+ghost use Rattle.wire.specs.Replies.{reply_frame, move_frame, moves_told, moves_text, reply_text, two_bytes};
 
+use crate::kind::{CommandKind, ReplyKind};
 use crate::reply::Reply;
 use board::{Answer, Call, Move, Report};
-use sheet::put_frame;
-use vocabulary::Refusal;
+use sheet::FrameWriter;
+use vocabulary::{Mill, Refusal};
 
 /// The length of area that serves for any answer.
 pub const AREA: usize = 16_384;
-
-/// The high byte of a number.
-fn high(n: u16) -> u8
-    ensures { result ≡ n / 256 }
-{
-    (n / 256) as u8
-}
-
-/// The low byte of a number.
-fn low(n: u16) -> u8
-    ensures { result ≡ n % 256 }
-{
-    (n % 256) as u8
-}
-
-/// The kind of the answer to a call.
-fn answer_kind(call: Call) -> u8
-    ensures { result ≡ call_kind call + 128 }
-{
-    match call {
-        Call::Add { .. } => 0x91,
-        Call::Done { .. } => 0x92,
-        Call::Withdraw { .. } => 0x93,
-        Call::Return { .. } => 0x94,
-    }
-}
 
 /// How many moved tickets an answer tells.
 fn moves_told(reply: Reply) -> usize
@@ -52,112 +27,112 @@ fn moves_told(reply: Reply) -> usize
     }
 }
 
-/// Writes the line of a moved ticket from a place on, and nothing else; tells the place behind it.
-fn put_move(area: &mut [u8], at: usize, moved: Move) -> usize
-    requires { at + 15 ≤ length area.old }
-    ensures behind { result ≡ at + length (frame_text (move_frame moved)) }
-    ensures text { area.new ≡ put at (frame_text (move_frame moved)) area.old }
+/// What the frame of a moved ticket carries.
+fn move_payload(moved: Move) -> [u8; 4]
+    ensures { result ≡ (move_frame moved).payload }
 {
-    let ticket = moved.ticket.0;
-    put_frame(
-        area,
-        at,
-        0xA0,
-        &[high(ticket), low(ticket), moved.from.0, moved.to.0],
-    )
+    let [high, low] = moved.ticket.0.to_be_bytes();
+    [high, low, moved.from.0, moved.to.0]
 }
 
-/// Writes the answer to a call to the front of an area, and nothing else; tells its length.
-fn put_called(area: &mut [u8], call: Call, answer: Answer) -> usize
-    requires { 21 ≤ length area.old }
-    ensures long { result ≡ length (frame_text (reply_frame (Called call answer))) }
-    ensures text { area.new ≡ put 0 (frame_text (reply_frame (Called call answer))) area.old }
+/// What the frame of an added ticket carries.
+fn added_payload(mill: Mill, count: u16) -> [u8; 3]
+    ensures { result ≡ mill.0 ∷ two_bytes count }
 {
-    let kind = answer_kind(call);
+    let [high, low] = count.to_be_bytes();
+    [mill.0, high, low]
+}
+
+/// What the frame of a report carries.
+fn report_payload(report: Report) -> [u8; 7]
+    ensures { result ≡ (reply_frame (Reported report)).payload }
+{
+    let [high, low] = report.highest_load.to_be_bytes();
+    let [highest, higher, lower, lowest] = report.flow_time.to_be_bytes();
+    [high, low, report.busy_mills, highest, higher, lower, lowest]
+}
+
+/// What the frame of a refusal carries.
+fn refusal_payload(refusal: Refusal) -> [u8; 3]
+    ensures { result ≡ (reply_frame (Refused refusal)).payload }
+{
+    let [high, low] = refusal.place().to_be_bytes();
+    [refusal.number(), high, low]
+}
+
+/// Writes the line of a moved ticket, and nothing else.
+fn put_move(frames: &mut FrameWriter<'_>, moved: Move)
+    requires { HasRoom 15 frames.old }
+    ensures { Appends (frame_text (move_frame moved)) frames.old frames.new }
+{
+    frames.frame(ReplyKind::Moved.into(), &move_payload(moved));
+}
+
+/// Writes the answer to a call, and nothing else.
+fn put_called(frames: &mut FrameWriter<'_>, call: Call, answer: Answer)
+    requires { HasRoom 21 frames.old }
+    ensures { Appends (frame_text (reply_frame (Called call answer))) frames.old frames.new }
+{
+    let kind = ReplyKind::Answer(call.into()).into();
     match answer {
-        Answer::Added { mill, count } => put_frame(
-            area,
-            0,
-            kind,
-            &[mill.0, high(count), low(count)],
-        ),
-        Answer::Moved { count } => put_frame(area, 0, kind, &[high(count), low(count)]),
+        Answer::Added { mill, count } => frames.frame(kind, &added_payload(mill, count)),
+        Answer::Moved { count } => frames.frame(kind, &count.to_be_bytes()),
     }
 }
 
-/// Writes a report to the front of an area, and nothing else; tells its length.
-fn put_report(area: &mut [u8], report: Report) -> usize
-    requires { 21 ≤ length area.old }
-    ensures long { result ≡ length (frame_text (reply_frame (Reported report))) }
-    ensures text { area.new ≡ put 0 (frame_text (reply_frame (Reported report))) area.old }
-{
-    let load = report.highest_load;
-    let above = (report.flow_time / 65_536) as u16;
-    let below = (report.flow_time % 65_536) as u16;
-    put_frame(
-        area,
-        0,
-        0x96,
-        &[
-            high(load),
-            low(load),
-            report.busy_mills,
-            high(above),
-            low(above),
-            high(below),
-            low(below),
-        ],
-    )
-}
-
-/// Writes a refusal to the front of an area, and nothing else; tells its length.
-fn put_refusal(area: &mut [u8], refusal: Refusal) -> usize
-    requires { 21 ≤ length area.old }
-    ensures long { result ≡ length (frame_text (reply_frame (Refused refusal))) }
-    ensures text { area.new ≡ put 0 (frame_text (reply_frame (Refused refusal))) area.old }
-{
-    let place = refusal.place();
-    put_frame(area, 0, 0xE0, &[refusal.number(), high(place), low(place)])
-}
-
-/// Writes the first line of an answer to the front of an area, and nothing else; tells its length.
-fn put_head(area: &mut [u8], reply: Reply) -> usize
-    requires { 21 ≤ length area.old }
-    ensures long { result ≡ length (frame_text (reply_frame reply)) }
-    ensures text { area.new ≡ put 0 (frame_text (reply_frame reply)) area.old }
+/// Writes the first line of an answer, and nothing else.
+fn put_head(frames: &mut FrameWriter<'_>, reply: Reply)
+    requires { HasRoom 21 frames.old }
+    ensures { Appends (frame_text (reply_frame reply)) frames.old frames.new }
 {
     match reply {
-        Reply::Called { call, answer } => put_called(area, call, answer),
-        Reply::Stands { mill } => put_frame(area, 0, 0x95, &[mill.0]),
-        Reply::Reported { report } => put_report(area, report),
-        Reply::Struck => put_frame(area, 0, 0xA1, &[]),
-        Reply::Aliased => put_frame(area, 0, 0xA2, &[]),
-        Reply::Refused { refusal } => put_refusal(area, refusal),
+        Reply::Called { call, answer } => put_called(frames, call, answer),
+        Reply::Stands { mill } => {
+            frames.frame(ReplyKind::Answer(CommandKind::Where).into(), &[mill.0])
+        }
+        Reply::Reported { report } => frames.frame(
+            ReplyKind::Answer(CommandKind::Report).into(),
+            &report_payload(report),
+        ),
+        Reply::Struck => frames.frame(ReplyKind::Answer(CommandKind::Strike).into(), &[]),
+        Reply::Aliased => frames.frame(ReplyKind::Answer(CommandKind::Alias).into(), &[]),
+        Reply::Refused { refusal } => frames.frame(
+            ReplyKind::Refused.into(),
+            &refusal_payload(refusal),
+        ),
     }
 }
 
-/// Writes the lines of moved tickets from a place on, and nothing else; tells the place behind them.
-fn put_moves(area: &mut [u8], at: usize, moves: &[Move]) -> usize
-    requires { at + 15 * length moves.now ≤ length area.old }
-    ensures behind { result ≡ at + length (moves_text moves.now) }
-    ensures text { area.new ≡ put at (moves_text moves.now) area.old }
+/// Writes the lines of moved tickets, and nothing else.
+fn put_moves(frames: &mut FrameWriter<'_>, moves: &[Move])
+    requires { HasRoom (15 * length moves.now) frames.old }
+    ensures { Appends (moves_text moves.now) frames.old frames.new }
 {
-    let mut end = at;
     for moved in moves {
-        end = put_move(area, end, *moved);
+        put_move(frames, *moved);
     }
-    end
+}
+
+/// Writes all lines of an answer, and nothing else.
+fn put_lines(frames: &mut FrameWriter<'_>, reply: Reply, moves: &[Move])
+    requires { HasRoom (21 + 15 * length moves.now) frames.old }
+    ensures text { Appends (frame_text (reply_frame reply) ++ moves_text moves.now) frames.old frames.new }
+    ensures short { length (frame_text (reply_frame reply) ++ moves_text moves.now) ≤ 21 + 15 * length moves.now }
+{
+    put_head(frames, reply);
+    put_moves(frames, moves);
 }
 
 /// Writes all lines of an answer to the front of an area, and nothing else; tells their length.
-fn put_lines(area: &mut [u8], reply: Reply, moves: &[Move]) -> usize
+fn put_text(area: &mut [u8], reply: Reply, moves: &[Move]) -> usize
     requires { 21 + 15 * length moves.now ≤ length area.old }
     ensures long { result ≡ length (frame_text (reply_frame reply) ++ moves_text moves.now) }
     ensures short { result ≤ 21 + 15 * length moves.now }
     ensures text { area.new ≡ (frame_text (reply_frame reply) ++ moves_text moves.now) ++ drop result area.old }
 {
-    let head = put_head(area, reply);
-    put_moves(area, head, moves)
+    let mut frames = FrameWriter::new(area);
+    put_lines(&mut frames, reply, moves);
+    frames.written()
 }
 
 /// Writes an answer and the records of its moved tickets to the front of an area; tells the length of the text. The area behind it is left as it was.
@@ -169,5 +144,5 @@ pub fn put_reply(area: &mut [u8], reply: Reply, moves: &[Move]) -> usize
     ensures short { result ≤ 16384 }
     ensures text { area.new ≡ reply_text reply moves.now ++ drop result area.old }
 {
-    put_lines(area, reply, &moves[0..moves_told(reply)])
+    put_text(area, reply, &moves[0..moves_told(reply)])
 }

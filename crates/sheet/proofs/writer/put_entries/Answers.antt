@@ -1,26 +1,25 @@
-use Rattle.std.proofs.Common.{arith}
-use Rattle.sheet.proofs.WriteSteps.{entries_none, entry_room, entries_more, entries_all}
+use Rattle.std.proofs.Common.{◌≡◌, ◌+◌, sym, subst, arith}
+use Rattle.sheet.specs.Area.{Appends}
+use Rattle.sheet.specs.Copies.{entries_of}
+use Rattle.sheet.proofs.AppendSteps.{nothing, both}
+use Rattle.sheet.proofs.WriteSteps.{entries_start, entries_next, length_entries_next, entries_upto}
 use Rattle.sheet.proofs.writer.put_entries.Goals as goal
 
 pub loop-program-init : goal.loop-program-init
-loop-program-init c = entries_none c.args.abilities.now c.args.area.now c.args.at c.requires.room
+loop-program-init c =
+    let frames = c.args.frames.now in
+    subst (λ text. Appends text frames frames) (sym (entries_start c.args.abilities.now)) (nothing (omega arith))
 
-pub put_entry-end-requires : goal.put_entry-end-requires
-put_entry-end-requires c = record {
-  lawful = c.requires.lawful;
-  room =
-      entry_room c.args.abilities.now c.args.area.now c.args.at c.requires.room c.loop-program.program c.loop-program.end c.loop-program.area c.loop-program.invariant
-      c.loop-program-test.true c.loop-program.auto.area;
-}
+pub put_entry-requires : goal.put_entry-requires
+put_entry-requires c =
+    let n = c.loop-program.program in
+    omega (arith, length_entries_next c.args.abilities.now n, entries_upto c.args.abilities.now (n + 1) 256 (omega arith))
 
 pub loop-program-preserved : goal.loop-program-preserved
-loop-program-preserved c =
-    entries_more c.args.abilities.now c.args.area.now c.args.at c.requires.room c.loop-program.program c.loop-program.end c.loop-program.area c.loop-program.invariant
-    c.put_entry-end.result c.put_entry-end.new.area c.put_entry-end.ensures.behind c.put_entry-end.ensures.text
+loop-program-preserved c = both (sym (entries_next c.args.abilities.now c.loop-program.program)) c.loop-program.invariant c.put_entry.ensures
 
-pub returns : goal.returns
-returns c =
-    let all =
-    entries_all c.args.abilities.now c.args.area.now c.args.at c.requires.room c.loop-program.program c.loop-program.end c.loop-program.area c.loop-program.invariant
-    (omega arith) in
-    record { behind = all.0; text = all.1 }
+pub returns-2 : goal.returns-2
+returns-2 c =
+    let all : c.loop-program.program + 1 ≡ 256 = omega arith in
+    subst (λ n. Appends (entries_of c.args.abilities.now n) c.args.frames.now c.put_entry.new.frames) all
+    (both (sym (entries_next c.args.abilities.now c.loop-program.program)) c.loop-program.invariant c.put_entry.ensures)

@@ -1,5 +1,7 @@
-use Rattle.wire.proofs.MoveSteps.{MovesPut}
+use Rattle.std.proofs.Common.{take}
+use Rattle.sheet.specs.Area.{Appends}
+use Rattle.wire.specs.Replies.{moves_text}
 use Rattle.wire.proofs.writer.put_moves.Given as goal
 
 abbrev pub invariant-loop-moved : goal.invariant-loop-moved
-invariant-loop-moved l = MovesPut l.initial.area l.at l.moves l.moved-index l.end l.area
+invariant-loop-moved l = Appends (moves_text (take l.moved-index l.moves)) l.initial.frames l.frames

@@ -1,11 +1,6 @@
-use Rattle.std.proofs.Common.{sym, subst}
-use Rattle.capability.specs.Meaning.{Lawful}
 use Rattle.capability.specs.Copied.{copied}
 use Rattle.sheet.proofs.SheetSteps.{answered}
-use Rattle.sheet.proofs.writer.write_copy.Goals as goal
-
-pub write-requires : goal.write-requires
-write-requires g c = subst Lawful (sym c.of.ensures) (g.met.S.Source.lawful c.args.source.now)
+use Rattle.sheet.proofs.writer.write_sheet.Goals as goal
 
 pub returns : goal.returns
 returns g c =
