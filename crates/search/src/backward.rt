@@ -102,8 +102,9 @@ fn carry_from(table: &mut Table, trail: &Trail, start: Mill)
     }
 }
 
-/// Searches for a chain towards a mill, and carries it out if it improves.
-fn shift_along(table: &mut Table, mill: Mill) -> bool
+/// Carries out one chain towards a mill by the rule of finishing and returning, if an improving one exists, and tells whether it
+/// did.
+pub fn shift(table: &mut Table, mill: Mill) -> bool
     requires { mill.0 < 64 }
     ensures { Shift table.old mill.0 result table.new }
 {
@@ -114,13 +115,4 @@ fn shift_along(table: &mut Table, mill: Mill) -> bool
     }
     carry_from(table, &trail, from);
     true
-}
-
-/// Carries out one chain towards a mill by the rule of finishing and returning, if an improving one exists, and tells whether it
-/// did.
-pub fn shift(table: &mut Table, mill: Mill) -> bool
-    requires { mill.0 < 64 }
-    ensures { Shift table.old mill.0 result table.new }
-{
-    shift_along(table, mill)
 }

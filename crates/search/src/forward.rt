@@ -50,7 +50,7 @@ fn search_from(table: &Table, ticket: Ticket, program: Program) -> Trail
         let mill = trail.queue[next];
         for number in 0..1024 {
             if let Some(seat) = table.seat(Ticket(number)) {
-                if seat.mill.0 == mill.0
+                if seat.mill == mill
                     && trail.visit(
                         table,
                         Ticket(number),

@@ -1,4 +1,5 @@
-use Rattle.std.proofs.Common.{suc, ◌+◌, ◌<◌, get_or, sym, refl, subst, arith}
+use Rattle.std.proofs.Common.{suc, ◌+◌, ◌<◌, get_or, sym, refl, subst, ◌∙◌, arith}
+use Rattle.std.proofs.lemmas.Bool.{both_ways, eqb-true, eq-eqb}
 use Rattle.table.specs.Held.{meant, tally_of}
 use Rattle.table.specs.Seats.{place_of}
 use Rattle.table.proofs.TableLaws.{semi}
@@ -16,15 +17,15 @@ use Rattle.search.proofs.forward.search_from.Goals.{
   at-Then-not-is_empty,
   at-At-loop-number,
   at-returns-then-visit,
-  at-visit-requires-then-seat-mill,
+  at-visit-requires-then-eq,
   at-overflow_add-next,
   at-search-smaller,
   at-returns-else-not-is_empty,
   at-returns-after-search,
   at-returns-then-visit-2,
-  in-Some+else-seat-mill,
-  else-seat-mill-via-then-seat-mill+else-visit-2,
-  else-seat-mill-via-else-seat-mill,
+  in-Some+else-eq,
+  else-eq-via-then-eq+else-visit-2,
+  else-eq-via-else-eq,
   in_default,
 }
 
@@ -60,8 +61,8 @@ standing c =
 pub bounds-trail-next : goal.bounds-trail-next
 bounds-trail-next c = few c
 
-pub visit-requires-then-seat-mill : goal.visit-requires-then-seat-mill
-visit-requires-then-seat-mill c = (standing (at-visit-requires-then-seat-mill c).At-loop-number).walking.sound
+pub visit-requires-then-eq : goal.visit-requires-then-eq
+visit-requires-then-eq c = (standing (at-visit-requires-then-eq c).At-loop-number).walking.sound
 
 pub loop-number-preserved : goal.loop-number-preserved
 loop-number-preserved c n program S0 =
@@ -71,13 +72,13 @@ loop-number-preserved c n program S0 =
     let number = c.loop-number.number in
     let next : Trail → Type 0 = λ trail. Standing (meant c.args.table.now) tally n program trail c.search.next mill.0 (number + 1) in
     elim c.match-seat.branch [
-      | in-Some+else-seat-mill w ↦ subst next (sym w.trail-is) (elim w.else-seat-mill.branch [
-        | else-seat-mill-via-then-seat-mill+else-visit-2 v ↦ subst next (sym v.trail-is) (stand_on _ _ _ _ c.loop-number.trail S
-            (place_of w.in-Some.seat) (sym w.in-Some.ensures) v.if-seat-mill.true c.loop-number-test.true
-            v.mills_for-then-seat-mill.result v.mills_for-then-seat-mill.ensures (record { 0 = number }) refl mill refl
-            v.visit-then-seat-mill.new.self (v.if-visit-2.ensures.all refl) (v.if-visit-2.ensures.busy refl))
-        | else-seat-mill-via-else-seat-mill v ↦ subst next (sym v.trail-is) (stand_skip _ _ _ _ c.loop-number.trail S
-            (seat_other tally number mill.0 w.in-Some.seat w.in-Some.ensures v.if-seat-mill.false))
+      | in-Some+else-eq w ↦ subst next (sym w.trail-is) (elim w.else-eq.branch [
+        | else-eq-via-then-eq+else-visit-2 v ↦ subst next (sym v.trail-is) (stand_on _ _ _ _ c.loop-number.trail S
+            (place_of w.in-Some.seat) (sym w.in-Some.ensures) (eqb-true _ _ (sym w.eq.ensures ∙ v.if-eq.true)) c.loop-number-test.true
+            v.mills_for-then-eq.result v.mills_for-then-eq.ensures (record { 0 = number }) refl mill refl
+            v.visit-then-eq.new.self (v.if-visit-2.ensures.all refl) (v.if-visit-2.ensures.busy refl))
+        | else-eq-via-else-eq v ↦ subst next (sym v.trail-is) (stand_skip _ _ _ _ c.loop-number.trail S
+            (seat_other tally number mill.0 w.in-Some.seat w.in-Some.ensures (λ e. both_ways _ (sym w.eq.ensures ∙ v.if-eq.false) (eq-eqb _ _ e))))
       ])
       | in_default w ↦ subst next (sym w.trail-is) (stand_skip _ _ _ _ c.loop-number.trail S (seat_none tally number mill.0 w.in_default.ensures))
     ]
@@ -105,6 +106,6 @@ returns-after-search c = walk_end _ _ _ _ c.search.trail (walked (at-returns-aft
 
 pub returns-then-visit-2 : goal.returns-then-visit-2
 returns-then-visit-2 c =
-    stand_stop _ _ _ _ c.loop-number.trail (standing (at-returns-then-visit-2 c).At-loop-number) (place_of c.in-Some.seat) (sym c.in-Some.ensures) c.if-seat-mill.true
-    c.loop-number-test.true c.mills_for-then-seat-mill.result c.mills_for-then-seat-mill.ensures (record { 0 = c.loop-number.number }) refl (get_or c.search.trail.queue c.search.next (record { 0 = 0 })) refl
-    c.visit-then-seat-mill.new.self (c.if-visit-2.ensures.stopped refl)
+    stand_stop _ _ _ _ c.loop-number.trail (standing (at-returns-then-visit-2 c).At-loop-number) (place_of c.in-Some.seat) (sym c.in-Some.ensures) (eqb-true _ _ (sym c.eq.ensures ∙ c.if-eq.true))
+    c.loop-number-test.true c.mills_for-then-eq.result c.mills_for-then-eq.ensures (record { 0 = c.loop-number.number }) refl (get_or c.search.trail.queue c.search.next (record { 0 = 0 })) refl
+    c.visit-then-eq.new.self (c.if-visit-2.ensures.stopped refl)

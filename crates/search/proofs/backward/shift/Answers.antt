@@ -2,7 +2,7 @@ use Rattle.std.proofs.Common.{◌≤◌, arith, rules}
 use Rattle.table.proofs.TableLaws.{semi, load_few}
 use Rattle.search.proofs.BackwardShift.{shift_none, shift_on, shift_done}
 use Rattle.search.proofs.BackwardSteps.{sought_some, sought_few}
-use Rattle.search.proofs.backward.shift_along.Goals as goal
+use Rattle.search.proofs.backward.shift.Goals as goal
 
 pub heaviest-from-requires : goal.heaviest-from-requires
 heaviest-from-requires c = let S = c.search_to-trail.ensures in record { some = sought_some S; few = sought_few S (semi c.args.table.now) }
