@@ -1,5 +1,5 @@
--- The search back from a mill: what it keeps, the way on from a mill that it reached, and the mill that it chooses.
-use Rattle.std.specs.Prelude.{◌≡◌, ℕ, ◌+◌, ◌<◌, ◌≤◌, false, List, [], ◌∷◌, length, Some, None, slice_index, slice_index_or}
+-- The search back from a mill: what it keeps, and the way on from a mill that it reached.
+use Rattle.std.specs.Prelude.{◌≡◌, ℕ, ◌+◌, ◌<◌, false, List, [], ◌∷◌, length, Some, None, slice_index_or}
 use Rattle.sets.specs.Sets.{has}
 use Rattle.capability.specs.Meaning.{Meaning}
 use Rattle.semimatching.specs.Chains.{Step, Chain}
@@ -48,11 +48,3 @@ pub record WayOn (meaning : Meaning) (tally : Tally) (trail : Trail) (from : ℕ
   pub steps : List Step
   pub chain : Chain (shop_in meaning tally) (placement tally) from steps mill
   pub way : Way trail from steps
-
--- of the first numbers of a list, the first that has the greatest value
-pub record Greatest (value : ℕ → ℕ) (numbers : List ℕ) (count : ℕ) (number : ℕ) : Type 0 where
-  pub place : ℕ
-  pub within : place < count
-  pub is : slice_index_or numbers place 0 ≡ number
-  pub greatest : (k : ℕ) → k < count → value (slice_index numbers k) ≤ value number
-  pub earliest : (k : ℕ) → k < place → value (slice_index numbers k) < value number

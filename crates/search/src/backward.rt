@@ -2,16 +2,17 @@
 ghost use Rattle.std.specs.Prelude.{◌≡◌, ◌<◌, ◌≤◌, List};
 ghost use Rattle.capability.specs.Meaning.{Meaning};
 ghost use Rattle.semimatching.specs.Chains.{Step};
-ghost use Rattle.semimatching.specs.Placements.{load};
 ghost use Rattle.table.specs.Held.{meant, tally_of};
-ghost use Rattle.table.specs.Tally.{Tally, shop_in, placement};
-ghost use Rattle.search.specs.BackSearches.{Sought, GoesOn, Room, Way, WayOn, Greatest};
+ghost use Rattle.table.specs.Tally.{Tally};
+ghost use Rattle.search.specs.BackSearches.{Sought, GoesOn, Room, Way, WayOn};
+ghost use Rattle.search.specs.Firsts.{Greatest};
 ghost use Rattle.search.specs.Rules.{carried_out};
 ghost use Rattle.search.specs.Shifts.{Shift};
 ghost use Rattle.search.specs.Trails.{queue_of};
+ghost use Rattle.search.specs.Visits.{load_in};
 
 use crate::link::Link;
-use crate::trail::Trail;
+use crate::trail::{Trail, first_best};
 use table::Table;
 use vocabulary::{Mill, Ticket};
 
@@ -78,15 +79,9 @@ fn search_to(table: &Table, mill: Mill) -> Trail
 fn heaviest(table: &Table, trail: &Trail) -> Mill
     requires some { 0 < trail.now.len }
     requires few { trail.now.len ≤ 64 }
-    ensures { Greatest (load (shop_in (meant table.now) (tally_of table.now)) (placement (tally_of table.now))) (queue_of trail.now) trail.now.len result.0 }
+    ensures { Greatest (load_in (tally_of table.now)) (queue_of trail.now) result.0 }
 {
-    let mut best = trail.queue[0];
-    for place in 1..trail.len {
-        if table.load(best) < table.load(trail.queue[place]) {
-            best = trail.queue[place];
-        }
-    }
-    best
+    first_best(table, &trail.queue[..trail.len], |load, best| load > best)
 }
 
 /// Moves each ticket on the way from a reached mill on to the mill that it leads to.

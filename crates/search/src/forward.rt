@@ -2,13 +2,14 @@
 ghost use Rattle.std.specs.Prelude.{◌≡◌, ℕ, ◌<◌, true, false, None};
 ghost use Rattle.table.specs.Held.{meant, tally_of};
 ghost use Rattle.table.specs.Tally.{mill_for, placement};
-ghost use Rattle.search.specs.Routes.{Lightest, Route, Ended};
+ghost use Rattle.search.specs.Firsts.{Lightest};
+ghost use Rattle.search.specs.Routes.{Route, Ended};
 ghost use Rattle.search.specs.Rules.{shop_for, PlacedByRule, EvenIn};
 ghost use Rattle.search.specs.Trails.{queue_of, ticket_of, from_of};
 ghost use Rattle.search.specs.Visits.{Sound, load_in, fresh, Busy, Visited, Stopped};
 
 use crate::link::Link;
-use crate::trail::Trail;
+use crate::trail::{Trail, first_best};
 use sets::NumberSet;
 use table::{Seat, Table};
 use vocabulary::{Mill, Program, Ticket};
@@ -73,14 +74,7 @@ fn lightest(table: &Table, trail: &Trail) -> Mill
     requires some { 0 < trail.now.len }
     ensures { Lightest (load_in (tally_of table.now)) (queue_of trail.now) result.0 }
 {
-    let mut best = trail.queue[0];
-    for place in 1..trail.len {
-        let mill = trail.queue[place];
-        if table.load(mill) < table.load(best) {
-            best = mill;
-        }
-    }
-    best
+    first_best(table, &trail.queue[..trail.len], |load, best| load < best)
 }
 
 /// Moves each ticket on the way to `end` on to the mill that it leads to, and seats the new ticket on the first mill of the way.

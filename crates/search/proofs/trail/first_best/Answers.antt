@@ -1,0 +1,27 @@
+use Rattle.std.proofs.Common.{◌+◌, ◌-◌, ◌<◌, length, sym, ap, ap₂, ◌∙◌, subst, arith}
+use Rattle.vocabulary.specs.declared.numbers.Mill.{Mill}
+use Rattle.table.specs.Held.{tally_of}
+use Rattle.search.specs.Visits.{load_in}
+use Rattle.search.proofs.FirstSteps.{FirstTo, rest_length, rest_at, first_start, first_new, first_stays, first_all}
+use Rattle.search.proofs.trail.first_best.Goals as goal
+use Rattle.search.proofs.trail.first_best.Goals.{then-beats, else-beats}
+
+pub loop-mill-init : goal.loop-mill-init
+loop-mill-init g c order weak computes = first_start _ _ weak _ c.requires.some
+
+pub loop-mill-preserved : goal.loop-mill-preserved
+loop-mill-preserved g c order weak computes =
+    let mills = c.args.mills.now in
+    let index = c.loop-mill.mill-index in
+    let low : index < length mills - 1 = omega (arith, c.loop-mill-test.true, rest_length mills) in
+    let here = ap (λ m. m.0) (rest_at mills index low) in
+    let test = ap₂ order (sym c.load.ensures) (sym c.load-in-loop-mill.ensures) ∙ sym (computes _ _ _ c.beats.ensures) in
+    let next : Mill → Type 0 = λ mill. FirstTo order (load_in (tally_of c.args.table.now)) mills (index + 1 + 1) mill.0 in
+    elim c.if-beats.branch [
+      | then-beats w ↦ subst next (sym w.best-is) (first_new _ _ weak mills (c.loop-mill.invariant order weak computes) (omega arith) _ here (test ∙ w.if-beats.true))
+      | else-beats w ↦ subst next (sym w.best-is) (first_stays _ _ weak mills (c.loop-mill.invariant order weak computes) (omega arith) _ here (test ∙ w.if-beats.false))
+    ]
+
+pub returns : goal.returns
+returns g c order weak computes =
+    first_all _ _ weak c.args.mills.now _ _ (c.loop-mill.invariant order weak computes) (omega (arith, c.requires.some, c.loop-mill-test.false, rest_length c.args.mills.now))
