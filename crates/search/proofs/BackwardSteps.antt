@@ -1,5 +1,5 @@
 -- The search back from a mill, one ticket and one mill further.
-use Rattle.std.proofs.Common.{◌≡◌, ℕ, ◌+◌, ◌<◌, ◌≤◌, Bool, true, false, ◌||◌, eqb, List, [], ◌∷◌, ◌++◌, length, get_or, take, set, Some, None, sym, refl, ap, ◌∙◌, subst, ⊎_elim, arith}
+use Rattle.std.proofs.Common.{◌≡◌, ℕ, ◌+◌, ◌<◌, ◌≤◌, Bool, true, false, ◌||◌, eqb, List, [], ◌∷◌, ◌++◌, length, get_or, take, set, Some, None, Option, sym, refl, ap, ◌∙◌, subst, ⊎_elim, arith}
 use Rattle.std.specs.Option.{option_map}
 use Rattle.std.proofs.lemmas.List.{length-append, get_or_append_left, get_or-set_same, get_or-set_other, get_or-map, get_or-take, length-set, length-map}
 use Rattle.std.proofs.lemmas.Bool.{both_ways}
@@ -22,7 +22,7 @@ use Rattle.table.specs.Tally.{Place, Tally, mill_for, mill_of, shop_in, placemen
 use Rattle.table.proofs.TableLaws.{semi, stands_few, service_few, placed_served}
 use Rattle.search.specs.declared.link.Link.{Link}
 use Rattle.search.specs.declared.trail.Trail.{Trail}
-use Rattle.search.specs.Trails.{queue_of, node_of, link_of, ticket_of, by_of}
+use Rattle.search.specs.Trails.{queue_of, node_of, link_of, ticket_in, ticket_of, by_of}
 use Rattle.search.specs.BackSearches.{Sought, Visiting, Room}
 
 -- one mill more is in the queue
@@ -36,21 +36,18 @@ is_in_push m (x ∷ xs) k = ap (λ b. eqb m x || b) (is_in_push m xs k) ∙ swap
     swap false b c = refl
 
 -- what `reach` does to a trail
-pub record Reached (before : Trail) (mill : ℕ) (link : Link) (after : Trail) : Type 0 where
+pub record Reached (before : Trail) (mill : ℕ) (link : Option Link) (after : Trail) : Type 0 where
   pub queue : queue_of after ≡ queue_of before ++ (mill ∷ [])
   pub len : after.len ≡ length (queue_of after)
   pub reached : (m : ℕ) → has after.reached m ≡ (eqb m mill || has before.reached m)
   pub links : after.links ≡ set before.links mill link
 
-abbrev unlinked : Link
-unlinked = record { ticket = record { 0 = 0 }; by = None }
-
-module _ {before : Trail} {mill : ℕ} {link : Link} {after : Trail} (R : Reached before mill link after) where
+module _ {before : Trail} {mill : ℕ} {link : Option Link} {after : Trail} (R : Reached before mill link after) where
   link_here : mill < length before.links → link_of after mill ≡ link
-  link_here low = ap (λ links. get_or links mill unlinked) R.links ∙ get_or-set_same before.links mill link unlinked low
+  link_here low = ap (λ links. get_or links mill None) R.links ∙ get_or-set_same before.links mill link None low
 
   link_other : (m : ℕ) → (m ≡ mill → ⊥) → link_of after m ≡ link_of before m
-  link_other m other = ap (λ links. get_or links m unlinked) R.links ∙ get_or-set_other before.links mill m link unlinked other
+  link_other m other = ap (λ links. get_or links m None) R.links ∙ get_or-set_other before.links mill m link None other
 
   links_whole : length before.links ≡ 64 → length after.links ≡ 64
   links_whole whole = ap length R.links ∙ length-set before.links mill link ∙ whole
@@ -63,16 +60,16 @@ queue_at trail k len under =
     ∙ ap (λ m. m.0) (get_or-take trail.len trail.queue k (record { 0 = 0 }) under)
 
 -- the search begins at the mill
-pub seek_start : (mill : ℕ) (before : Trail) (link : Link) (after : Trail) → Reached before mill link after
-    → mill < 64 → length before.links ≡ 64 → link.by ≡ None → queue_of before ≡ [] → ((m : ℕ) → has before.reached m ≡ false)
+pub seek_start : (mill : ℕ) (before : Trail) (link : Option Link) (after : Trail) → Reached before mill link after
+    → mill < 64 → length before.links ≡ 64 → link ≡ None → queue_of before ≡ [] → ((m : ℕ) → has before.reached m ≡ false)
     → (meaning : Meaning) (tally : Tally) → Sought meaning tally mill after 0 0
 seek_start mill before link after R low whole root empty none meaning tally =
     let first : queue_of after ≡ mill ∷ [] = R.queue ∙ ap (λ q. q ++ (mill ∷ [])) empty in
     record {
       path = λ _. [];
       searched = subst (λ q. Searched (Backward (shop_in meaning tally) (placement tally)) mill q (λ _. []) 0 0 0) (sym first) (back_start (shop_in meaning tally) (placement tally) mill);
-      links = subst (λ q. Links mill q (λ _. []) (ticket_of after) (by_of after)) (sym first) (links_start mill (λ _. []) (ticket_of after) (by_of after));
-      root = ap (λ l. l.by) (link_here R (omega arith)) ∙ root;
+      links = subst (λ q. Links mill q (λ _. []) (ticket_of 0 after) (by_of after)) (sym first) (links_start mill (λ _. []) (ticket_of 0 after) (by_of after));
+      root = link_here R (omega arith) ∙ root;
       reached = λ m. R.reached m ∙ ap (λ b. eqb m mill || b) (none m) ∙ ap (is_in m) (sym first);
       len = R.len;
       whole = links_whole R whole;
@@ -188,7 +185,7 @@ module _ {meaning : Meaning} {tally : Tally} {mill : ℕ} {trail : Trail} {place
     -- it stands on a new mill
     module _ {after : Trail} (unknown : has trail.reached p.mill ≡ false) (may : mill_for meaning tally.service p.program towards ≡ true) (exists : t < 1024)
         (semi : SemiMatching shop at)
-        (R : Reached trail p.mill (record { ticket = record { 0 = t }; by = Some (record { 0 = towards }) }) after) where
+        (R : Reached trail p.mill (Some (record { ticket = record { 0 = t }; by = record { 0 = towards } })) after) where
       abbrev m : ℕ
       m = p.mill
 
@@ -198,7 +195,7 @@ module _ {meaning : Meaning} {tally : Tally} {mill : ℕ} {trail : Trail} {place
       new : In m (queue_of trail) → ⊥
       new = reached_out S m unknown
 
-      there : link_of after m ≡ record { ticket = record { 0 = t }; by = Some (record { 0 = towards }) }
+      there : link_of after m ≡ Some (record { ticket = record { 0 = t }; by = record { 0 = towards } })
       there = link_here R (omega (arith, S.whole, semi t m exists stands))
 
       searched : Searched (Backward shop at) mill (queue_of trail ++ (m ∷ [])) path place (t + 1) 0
@@ -206,11 +203,11 @@ module _ {meaning : Meaning} {tally : Tally} {mill : ℕ} {trail : Trail} {place
           back_new shop at mill S.searched towards under V.here m stands (sought_mills S semi towards towards_in) exists
           (may_go ∙ may) new
 
-      links : Links mill (queue_of trail ++ (m ∷ [])) path (ticket_of after) (by_of after)
+      links : Links mill (queue_of trail ++ (m ∷ [])) path (ticket_of 0 after) (by_of after)
       links =
-          links_new mill (queue_of trail) S.path (ticket_of trail) (by_of trail) (ticket_of after) (by_of after) m t towards towards_in new
-          (ap (λ l. l.ticket.0) there) (ap (λ l. node_of l.by) there)
-          (λ y other. (ap (λ l. l.ticket.0) (link_other R y other), ap (λ l. node_of l.by) (link_other R y other)))
+          links_new mill (queue_of trail) S.path (ticket_of 0 trail) (by_of trail) (ticket_of 0 after) (by_of after) m t towards towards_in new
+          (ap (ticket_in 0) there) (ap node_of there)
+          (λ y other. (ap (ticket_in 0) (link_other R y other), ap node_of (link_other R y other)))
           S.links
 
       pub visit_new : Visiting meaning tally mill after place towards (t + 1)
@@ -218,8 +215,8 @@ module _ {meaning : Meaning} {tally : Tally} {mill : ℕ} {trail : Trail} {place
         sought = record {
           path = path;
           searched = subst (λ q. Searched (Backward shop at) mill q path place (t + 1) 0) (sym R.queue) searched;
-          links = subst (λ q. Links mill q path (ticket_of after) (by_of after)) (sym R.queue) links;
-          root = ap (λ l. l.by) (link_other R mill (λ e. new (subst (λ k. In k (queue_of trail)) e S.searched.found.root.0))) ∙ S.root;
+          links = subst (λ q. Links mill q path (ticket_of 0 after) (by_of after)) (sym R.queue) links;
+          root = link_other R mill (λ e. new (subst (λ k. In k (queue_of trail)) e S.searched.found.root.0)) ∙ S.root;
           reached = λ k. R.reached k ∙ ap (λ b. eqb k m || b) (S.reached k) ∙ sym (is_in_push k (queue_of trail) m) ∙ ap (is_in k) (sym R.queue);
           len = R.len;
           whole = links_whole R S.whole;

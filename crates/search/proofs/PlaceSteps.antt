@@ -6,7 +6,6 @@ use Rattle.std.specs.List.{AllByRecursion as All}
 use Rattle.std.proofs.ByRecursion.{All-push}
 use Rattle.std.proofs.lemmas.List.{append_assoc, length-append, length-reverse, same_from_push}
 use Rattle.std.proofs.lemmas.Bool.{cond-true, cond-false, eq-eqb, ne_eqb, false≢true}
-use Rattle.vocabulary.specs.declared.numbers.Mill.{Mill}
 use Rattle.capability.specs.Meaning.{Meaning}
 use Rattle.semimatching.specs.Chains.{Step, Linked, Chain}
 use Rattle.semimatching.specs.Choice.{walk_from, Placing}
@@ -17,7 +16,7 @@ use Rattle.search.specs.declared.link.Link.{Link}
 use Rattle.search.specs.declared.trail.Trail.{Trail}
 use Rattle.search.specs.Routes.{Leads, Route}
 use Rattle.search.specs.Rules.{shop_for, relocated, carried_out, PlacedByRule}
-use Rattle.search.specs.Trails.{link_of, from_of}
+use Rattle.search.specs.Trails.{link_of, ticket_in, ticket_of, from_of}
 use Rattle.search.proofs.CarriedOut.{seated-relocated, out_push, out_reverse, out_seated, out_service, out_can, out_none, linked_tickets, linked_others}
 
 -- ---- the shop with a ticket that is to be placed
@@ -246,8 +245,12 @@ module _ (meaning : Meaning) (before : Tally) (n program : ℕ) (ticket : ℕ �
 
 -- ---- the links as the code reads them
 
-pub link_on : (trail : Trail) (to : ℕ) (link : Link) (from : Mill) → link ≡ link_of trail to → link.by ≡ Some from → from_of trail to ≡ Some from.0
-link_on trail to link from is by = ap (λ l. option_map (λ m. m.0) l.by) (sym is) ∙ ap (option_map (λ m. m.0)) by
+module _ (trail : Trail) (to : ℕ) (read : Option Link) (is : read ≡ link_of trail to) where
+  pub link_on : (link : Link) → read ≡ Some link → from_of trail to ≡ Some link.by.0
+  link_on link here = ap (option_map (λ l. l.by.0)) (sym is ∙ here)
 
-pub link_end : (trail : Trail) (to : ℕ) (link : Link) → link ≡ link_of trail to → link.by ≡ None → from_of trail to ≡ None
-link_end trail to link is by = ap (λ l. option_map (λ m. m.0) l.by) (sym is) ∙ ap (option_map (λ m. m.0)) by
+  pub link_end : read ≡ None → from_of trail to ≡ None
+  link_end here = ap (option_map (λ l. l.by.0)) (sym is ∙ here)
+
+  pub link_ticket : (n : ℕ) (link : Link) → read ≡ Some link → link.ticket.0 ≡ ticket_of n trail to
+  link_ticket n link here = ap (ticket_in n) (sym here ∙ is)

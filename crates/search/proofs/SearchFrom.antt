@@ -22,7 +22,7 @@ use Rattle.search.specs.declared.link.Link.{Link}
 use Rattle.search.specs.declared.trail.Trail.{Trail}
 use Rattle.search.specs.Routes.{Explored, Ended}
 use Rattle.search.specs.Rules.{shop_for}
-use Rattle.search.specs.Trails.{queue_of, ticket_of, from_of}
+use Rattle.search.specs.Trails.{queue_of, ticket_in, ticket_of, from_of}
 use Rattle.search.specs.Visits.{Sound, load_in, fresh, Busy, Visited, Stopped}
 use Rattle.search.proofs.ForwardSteps.{Going, going_start, node_at}
 use Rattle.search.proofs.ForwardVisits.{is_member, in_right, Leaves, leaves_ticket, leaves_mill, New, going_links, visited_to, visited_stop, going_in, going_ticket, going_skip, going_node, going_end, going_early}
@@ -45,7 +45,7 @@ fresh_new mills trail sound = record {
 pub record Walking (meaning : Meaning) (tally : Tally) (n program : ℕ) (trail : Trail) (h t : ℕ) : Type 0 where
   pub exists : n < 1024
   pub away : tally.seat n ≡ None
-  pub going : Going (shop_for meaning tally n program) (placement tally) n (queue_of trail) (ticket_of trail) (from_of trail) h t 0
+  pub going : Going (shop_for meaning tally n program) (placement tally) n (queue_of trail) (ticket_of n trail) (from_of trail) h t 0
   pub sound : Sound trail
   pub some : 0 < h → 0 < trail.len
 
@@ -89,8 +89,8 @@ module _ (meaning : Meaning) (tally : Tally) (n program : ℕ) where
   walk_start exists away trail none unreached len = record {
     exists = exists;
     away = away;
-    going = subst (λ q. Going (shop_for meaning tally n program) (placement tally) n q (ticket_of trail) (from_of trail) 0 n 0) (sym none)
-        (going_start (shop_for meaning tally n program) (placement tally) n (ticket_of trail) (from_of trail));
+    going = subst (λ q. Going (shop_for meaning tally n program) (placement tally) n q (ticket_of n trail) (from_of trail) 0 n 0) (sym none)
+        (going_start (shop_for meaning tally n program) (placement tally) n (ticket_of n trail) (from_of trail));
     sound = record {
       long = len ∙ sym (ap length none);
       counted = len ∙ sym (ap length (numbers-none (has trail.reached) 64 (λ k low. unreached k)));
@@ -101,31 +101,31 @@ module _ (meaning : Meaning) (tally : Tally) (n program : ℕ) where
 
   -- a visit from the node v in place h
   module _ (trail : Trail) {h t : ℕ} (W : Walking meaning tally n program trail h t) (v : ℕ) (low : h < length (64 ∷ queue_of trail)) (is : get_or (64 ∷ queue_of trail) h 0 ≡ v)
-      (mills : NumberSet) (L : Leaves (shop_for meaning tally n program) (placement tally) n v t (has mills)) (link : Link) (ticket : link.ticket.0 ≡ t)
-      (node : node_at 64 (option_map (λ m. m.0) link.by) ≡ v) (by_mill : (x : ℕ) → option_map (λ m. m.0) link.by ≡ Some x → x < 64) (after : Trail) where
+      (mills : NumberSet) (L : Leaves (shop_for meaning tally n program) (placement tally) n v t (has mills)) (link : Option Link) (ticket : ticket_in n link ≡ t)
+      (node : node_at 64 (option_map (λ l. l.by.0) link) ≡ v) (by_mill : (x : ℕ) → option_map (λ l. l.by.0) link ≡ Some x → x < 64) (after : Trail) where
     linked : (bound : ℕ) → Visited (fresh mills trail) link bound trail after → (m : ℕ) → m < bound → fresh mills trail m ≡ true
-        → (ticket_of after m ≡ t) × (from_of after m ≡ option_map (λ m. m.0) link.by)
-    linked bound V m under y = let is = V.linked m under y in (ap (λ l. l.ticket.0) is ∙ ticket, ap (λ l. option_map (λ m. m.0) l.by) is)
+        → (ticket_of n after m ≡ t) × (from_of after m ≡ option_map (λ l. l.by.0) link)
+    linked bound V m under y = let is = V.linked m under y in (ap (ticket_in n) is ∙ ticket, ap (option_map (λ l. l.by.0)) is)
 
-    going_on : (bound : ℕ) → Visited (fresh mills trail) link bound trail after → Going (shop_for meaning tally n program) (placement tally) n (queue_of trail) (ticket_of after) (from_of after) h t 0
+    going_on : (bound : ℕ) → Visited (fresh mills trail) link bound trail after → Going (shop_for meaning tally n program) (placement tally) n (queue_of trail) (ticket_of n after) (from_of after) h t 0
     going_on bound V =
-        going_links _ _ n (queue_of trail) (ticket_of trail) (ticket_of after) (from_of trail) (from_of after) h t 0
+        going_links _ _ n (queue_of trail) (ticket_of n trail) (ticket_of n after) (from_of trail) (from_of after) h t 0
         (λ y i.
         let same = V.kept y (W.sound.reached y ∙ (is_member y (queue_of trail)).1 i) in
-        (ap (λ l. l.ticket.0) same, ap (λ l. option_map (λ m. m.0) l.by) same))
+        (ap (ticket_in n) same, ap (option_map (λ l. l.by.0)) same))
         W.going
 
     pub visit_on : Visited (fresh mills trail) link 64 trail after → Busy (load_in tally) (fresh mills trail) 64
-        → Going (shop_for meaning tally n program) (placement tally) n (queue_of after) (ticket_of after) (from_of after) h t 64
+        → Going (shop_for meaning tally n program) (placement tally) n (queue_of after) (ticket_of n after) (from_of after) h t 64
     visit_on V busy =
-        subst (λ q. Going (shop_for meaning tally n program) (placement tally) n q (ticket_of after) (from_of after) h t 64) (sym V.queue)
-        (visited_to _ _ n (queue_of trail) (ticket_of after) (from_of after) (option_map (λ m. m.0) link.by) h t v low is node by_mill L (fresh_new mills trail W.sound) (going_on 64 V)
+        subst (λ q. Going (shop_for meaning tally n program) (placement tally) n q (ticket_of n after) (from_of after) h t 64) (sym V.queue)
+        (visited_to _ _ n (queue_of trail) (ticket_of n after) (from_of after) (option_map (λ l. l.by.0) link) h t v low is node by_mill L (fresh_new mills trail W.sound) (going_on 64 V)
         64 (omega arith) (linked 64 V) busy)
 
-    explored : Stopped (load_in tally) (fresh mills trail) link trail after → Explored (shop_for meaning tally n program) (placement tally) n (queue_of after) (ticket_of after) (from_of after)
+    explored : Stopped (load_in tally) (fresh mills trail) link trail after → Explored (shop_for meaning tally n program) (placement tally) n (queue_of after) (ticket_of n after) (from_of after)
     explored S =
-        subst (λ q. Explored (shop_for meaning tally n program) (placement tally) n q (ticket_of after) (from_of after)) (sym S.visited.queue)
-        (visited_stop _ _ n (queue_of trail) (ticket_of after) (from_of after) (option_map (λ m. m.0) link.by) h t v low is node by_mill L (fresh_new mills trail W.sound)
+        subst (λ q. Explored (shop_for meaning tally n program) (placement tally) n q (ticket_of n after) (from_of after)) (sym S.visited.queue)
+        (visited_stop _ _ n (queue_of trail) (ticket_of n after) (from_of after) (option_map (λ l. l.by.0) link) h t v low is node by_mill L (fresh_new mills trail W.sound)
         (going_on (S.mill + 1) S.visited) S.mill S.below (linked (S.mill + 1) S.visited) S.busy S.anew S.empty W.exists (not_placed meaning tally n program W.away))
 
     pub visit_stop : Stopped (load_in tally) (fresh mills trail) link trail after → Ended meaning tally n program after
@@ -140,9 +140,9 @@ module _ (meaning : Meaning) (tally : Tally) (n program : ℕ) where
   -- ---- from the ticket itself
 
   module _ (trail : Trail) (W : Walking meaning tally n program trail 0 n) (empty : queue_of trail ≡ [])
-      (mills : NumberSet) (for_it : (m : ℕ) → has mills m ≡ mill_for meaning tally.service program m) (ticket : Ticket) (is_new : ticket.0 ≡ n) (after : Trail) where
-    abbrev first_link : Link
-    first_link = record { ticket = ticket; by = None }
+      (mills : NumberSet) (for_it : (m : ℕ) → has mills m ≡ mill_for meaning tally.service program m) (after : Trail) where
+    abbrev first_link : Option Link
+    first_link = None
 
     first_leaves : Leaves (shop_for meaning tally n program) (placement tally) n 64 n (has mills)
     first_leaves = leaves_ticket (shop_for meaning tally n program) (placement tally) n (has mills) (λ m. for_new meaning tally n program m ∙ sym (for_it m))
@@ -160,13 +160,13 @@ module _ (meaning : Meaning) (tally : Tally) (n program : ℕ) where
     enter_on m low may V busy = record {
       exists = W.exists;
       away = W.away;
-      going = going_in _ _ n (visit_on trail W 64 (omega arith) refl mills first_leaves first_link is_new refl (λ x e. absurd (none-some x e)) after V busy);
+      going = going_in _ _ n (visit_on trail W 64 (omega arith) refl mills first_leaves first_link refl refl (λ x e. absurd (none-some x e)) after V busy);
       sound = V.sound;
       some = λ later. enter_some m low may V;
     }
 
     pub enter_stop : Stopped (load_in tally) (fresh mills trail) first_link trail after → Ended meaning tally n program after
-    enter_stop = visit_stop trail W 64 (omega arith) refl mills first_leaves first_link is_new refl (λ x e. absurd (none-some x e)) after
+    enter_stop = visit_stop trail W 64 (omega arith) refl mills first_leaves first_link refl refl (λ x e. absurd (none-some x e)) after
 
   -- ---- from the mill in a place of the queue
 
@@ -196,7 +196,7 @@ module _ (meaning : Meaning) (tally : Tally) (n program : ℕ) where
     stand_done end = record {
       exists = S.walking.exists;
       away = S.walking.away;
-      going = subst (λ h. Going (shop_for meaning tally n program) (placement tally) n (queue_of trail) (ticket_of trail) (from_of trail) h 0 0) (add-one (suc next) ∙ ap suc (sym (add-one next)))
+      going = subst (λ h. Going (shop_for meaning tally n program) (placement tally) n (queue_of trail) (ticket_of n trail) (from_of trail) h 0 0) (add-one (suc next) ∙ ap suc (sym (add-one next)))
           (going_node _ _ n S.walking.going mill (omega (arith, S.low)) S.is here_mill end);
       sound = S.walking.sound;
       some = λ later. S.walking.some (omega arith);
@@ -206,8 +206,8 @@ module _ (meaning : Meaning) (tally : Tally) (n program : ℕ) where
     module _ (place : Place) (seat : tally.seat t ≡ Some place) (on : place.mill ≡ mill) (below : t < 1024)
         (mills : NumberSet) (for_it : (m : ℕ) → has mills m ≡ mill_for meaning tally.service place.program m)
         (ticket : Ticket) (number : ticket.0 ≡ t) (node : Mill) (standing : node.0 ≡ mill) (after : Trail) where
-      abbrev next_link : Link
-      next_link = record { ticket = ticket; by = Some node }
+      abbrev next_link : Option Link
+      next_link = Some (record { ticket = ticket; by = node })
 
       stands : placement tally t ≡ Some mill
       stands = ap (option_map (λ p. p.mill)) seat ∙ ap Some on

@@ -1,5 +1,5 @@
 -- The turns of a visit: one new mill more is reached, and either it is empty or the visit goes on.
-use Rattle.std.proofs.Common.{◌≡◌, ℕ, ◌+◌, ◌<◌, Bool, true, false, not, ◌||◌, eqb, ltb, List, [], ◌∷◌, ◌++◌, length, sym, refl, ap, ◌∙◌, subst, ap₂, ⊎_elim, arith}
+use Rattle.std.proofs.Common.{◌≡◌, ℕ, ◌+◌, ◌<◌, Bool, true, false, not, ◌||◌, eqb, ltb, List, [], ◌∷◌, ◌++◌, length, Option, sym, refl, ap, ◌∙◌, subst, ap₂, ⊎_elim, arith}
 use Rattle.std.proofs.lemmas.List.{append-nil, append_assoc, length_push}
 use Rattle.std.proofs.lemmas.Bool.{cases_eq, and_parts, and_from, not-true, both_ways, lt-ltb}
 use Rattle.sets.specs.Sets.{has, members, member, numbers, remaining}
@@ -16,13 +16,13 @@ use Rattle.search.specs.Visits.{Sound, fresh, Busy, Visited, Stopped}
 use Rattle.search.proofs.ForwardVisits.{is_member, numbers-below, numbers_with}
 
 -- the mills xs were reached by one link
-pub record Reached (link : Link) (before after : Trail) (xs : List ℕ) : Type 0 where
+pub record Reached (link : Option Link) (before after : Trail) (xs : List ℕ) : Type 0 where
   pub sound : Sound after
   pub queue : queue_of after ≡ queue_of before ++ xs
   pub linked : (m : ℕ) → In m xs → link_of after m ≡ link
   pub kept : (m : ℕ) → has before.reached m ≡ true → link_of after m ≡ link_of before m
 
-pub reached_none : (link : Link) (trail : Trail) → Sound trail → Reached link trail trail []
+pub reached_none : (link : Option Link) (trail : Trail) → Sound trail → Reached link trail trail []
 reached_none link trail sound = record { sound = sound; queue = sym (append-nil (queue_of trail)); linked = λ m i. absurd i; kept = λ m r. refl }
 
 or_swap : (a b : Bool) → (a || b) ≡ (b || (a || false))
@@ -32,7 +32,7 @@ or_swap false true = refl
 or_swap false false = refl
 
 -- one mill more, which was not reached
-module _ (link : Link) (before here : Trail) (xs : List ℕ) (R : Reached link before here xs) (mill : ℕ) (below : mill < 64)
+module _ (link : Option Link) (before here : Trail) (xs : List ℕ) (R : Reached link before here xs) (mill : ℕ) (below : mill < 64)
     (new : has before.reached mill ≡ false) (later : In mill xs → ⊥) (before_sound : Sound before) where
   not_reached : has here.reached mill ≡ false
   not_reached =
@@ -88,7 +88,7 @@ module _ (link : Link) (before here : Trail) (xs : List ℕ) (R : Reached link b
 -- ---- a visit to the mills of a set
 
 -- what was reached is all that is new below a bound
-visited : (link : Link) (before after : Trail) (new : ℕ → Bool) (bound : ℕ) (xs : List ℕ) → xs ≡ numbers new bound → Reached link before after xs → Visited new link bound before after
+visited : (link : Option Link) (before after : Trail) (new : ℕ → Bool) (bound : ℕ) (xs : List ℕ) → xs ≡ numbers new bound → Reached link before after xs → Visited new link bound before after
 visited link before after new bound xs is R = record {
   sound = R.sound;
   queue = R.queue ∙ ap (λ l. queue_of before ++ l) is;
@@ -131,7 +131,7 @@ module _ (mills : NumberSet) (before : Trail) {xs : List ℕ} {mill : ℕ} (T : 
   turn_later : In mill xs → ⊥
   turn_later i = numbers-below (fresh mills before) mill (subst (In mill) turn_come i)
 
-  module _ (sound : Sound before) (link : Link) (trail : Trail) (R : Reached link before trail xs) where
+  module _ (sound : Sound before) (link : Option Link) (trail : Trail) (R : Reached link before trail xs) where
     pub turn_room : trail.len < 64
     turn_room = reach_room link before trail xs R mill turn_below turn_new turn_later sound
 
@@ -140,7 +140,7 @@ module _ (mills : NumberSet) (before : Trail) {xs : List ℕ} {mill : ℕ} (T : 
         → ((m : ℕ) → (m ≡ mill → ⊥) → link_of after m ≡ link_of trail m) → Reached link before after (xs ++ (mill ∷ []))
     turn_more = reach_more link before trail xs R mill turn_below turn_new turn_later sound
 
-  pub turn_stopped : (load : ℕ → ℕ) (link : Link) (after : Trail) → Reached link before after (xs ++ (mill ∷ [])) → Laden load xs → load mill ≡ 0
+  pub turn_stopped : (load : ℕ → ℕ) (link : Option Link) (after : Trail) → Reached link before after (xs ++ (mill ∷ [])) → Laden load xs → load mill ≡ 0
       → Stopped load (fresh mills before) link before after
   turn_stopped load link after R laden empty = record {
     mill = mill;
@@ -158,7 +158,7 @@ module _ (mills : NumberSet) (before : Trail) (left : NumberSet) (differs : (k :
   all_come : xs ≡ numbers (fresh mills before) 64
   all_come = members_end left xs here split end ∙ numbers_same (has left) (fresh mills before) 64 (λ k low. differs k)
 
-  pub visit_all : (link : Link) (after : Trail) → Reached link before after xs → Visited (fresh mills before) link 64 before after
+  pub visit_all : (link : Option Link) (after : Trail) → Reached link before after xs → Visited (fresh mills before) link 64 before after
   visit_all link after = visited link before after (fresh mills before) 64 xs all_come
 
   pub visit_busy : (load : ℕ → ℕ) → Laden load xs → Busy load (fresh mills before) 64

@@ -15,8 +15,8 @@ use Rattle.search.specs.Trails.{queue_of, link_of, ticket_of, by_of}
 pub record Sought (meaning : Meaning) (tally : Tally) (mill : ℕ) (trail : Trail) (place ticket : ℕ) : Type 0 where
   pub path : ℕ → List Step
   pub searched : Searched (Backward (shop_in meaning tally) (placement tally)) mill (queue_of trail) path place ticket 0
-  pub links : Links mill (queue_of trail) path (ticket_of trail) (by_of trail)
-  pub root : (link_of trail mill).by ≡ None
+  pub links : Links mill (queue_of trail) path (ticket_of 0 trail) (by_of trail)
+  pub root : link_of trail mill ≡ None
   pub reached : (m : ℕ) → has trail.reached m ≡ is_in m (queue_of trail)
   pub len : trail.len ≡ length (queue_of trail)
   pub whole : length trail.links ≡ 64
@@ -39,8 +39,8 @@ Room trail = (m : ℕ) → m < 64 → has trail.reached m ≡ false → trail.le
 
 -- the steps that the links tell from a mill on
 abbrev pub Way : Trail → ℕ → List Step → Type 0
-Way trail from [] = (link_of trail from).by ≡ None
-Way trail from (s ∷ ss) = (link_of trail from ≡ record { ticket = record { 0 = s.ticket }; by = Some (record { 0 = s.mill }) }) × Way trail s.mill ss
+Way trail from [] = link_of trail from ≡ None
+Way trail from (s ∷ ss) = (link_of trail from ≡ Some (record { ticket = record { 0 = s.ticket }; by = record { 0 = s.mill } })) × Way trail s.mill ss
 
 -- they are a chain
 pub record WayOn (meaning : Meaning) (tally : Tally) (trail : Trail) (from : ℕ) : Type 0 where

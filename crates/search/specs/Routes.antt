@@ -35,4 +35,4 @@ Explored shop at n queue ticket from = (w : ℕ) → Lightest (load shop at) que
 pub record Ended (meaning : Meaning) (tally : Tally) (n program : ℕ) (trail : Trail) : Type 0 where
   pub sound : Sound trail
   pub some : 0 < trail.len
-  pub explored : Explored (shop_for meaning tally n program) (placement tally) n (queue_of trail) (ticket_of trail) (from_of trail)
+  pub explored : Explored (shop_for meaning tally n program) (placement tally) n (queue_of trail) (ticket_of n trail) (from_of trail)

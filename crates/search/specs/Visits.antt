@@ -1,5 +1,5 @@
 -- What one visit does to a trail: a ticket reaches those of its mills that were not reached before.
-use Rattle.std.specs.Prelude.{◌≡◌, ℕ, ◌+◌, ◌<◌, Bool, true, not, ◌&&◌, ◌++◌, length}
+use Rattle.std.specs.Prelude.{◌≡◌, ℕ, ◌+◌, ◌<◌, Bool, true, not, ◌&&◌, ◌++◌, length, Option}
 use Rattle.sets.specs.Sets.{has, members, member, numbers}
 use Rattle.sets.specs.declared.number_set.NumberSet.{NumberSet}
 use Rattle.semimatching.specs.Placements.{stands_on}
@@ -24,7 +24,7 @@ abbrev pub fresh : NumberSet → Trail → ℕ → Bool
 fresh mills trail m = has mills m && not (has trail.reached m)
 
 -- the new mills below a bound were reached, in rising order, by one link
-pub record Visited (new : ℕ → Bool) (link : Link) (bound : ℕ) (before after : Trail) : Type 0 where
+pub record Visited (new : ℕ → Bool) (link : Option Link) (bound : ℕ) (before after : Trail) : Type 0 where
   pub sound : Sound after
   pub queue : queue_of after ≡ queue_of before ++ numbers new bound
   pub linked : (m : ℕ) → m < bound → new m ≡ true → link_of after m ≡ link
@@ -35,7 +35,7 @@ abbrev pub Busy : (ℕ → ℕ) → (ℕ → Bool) → ℕ → Type 0
 Busy load new bound = (m : ℕ) → m < bound → new m ≡ true → 0 < load m
 
 -- the visit came to an end at the first of the new mills that is empty
-pub record Stopped (load : ℕ → ℕ) (new : ℕ → Bool) (link : Link) (before after : Trail) : Type 0 where
+pub record Stopped (load : ℕ → ℕ) (new : ℕ → Bool) (link : Option Link) (before after : Trail) : Type 0 where
   pub mill : ℕ
   pub below : mill < 64
   pub anew : new mill ≡ true

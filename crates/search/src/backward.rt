@@ -31,10 +31,10 @@ impl Trail {
             {
                 self.reach(
                     seat.mill,
-                    Link {
+                    Some(Link {
                         ticket,
-                        by: Some(towards),
-                    },
+                        by: towards,
+                    }),
                 );
             }
         }
@@ -47,13 +47,7 @@ fn start_at(mill: Mill) -> Trail
     ensures { (meaning : Meaning) (tally : Tally) → Sought meaning tally mill.0 result 0 0 }
 {
     let mut trail = Trail::empty();
-    trail.reach(
-        mill,
-        Link {
-            ticket: Ticket(0),
-            by: None,
-        },
-    );
+    trail.reach(mill, None);
     trail
 }
 
@@ -91,9 +85,9 @@ fn carry_from(table: &mut Table, trail: &Trail, start: Mill)
     ensures tally { (steps : List Step) → Way trail.now start.0 steps → tally_of table.new ≡ carried_out (tally_of table.old) steps }
 {
     let mut from = start;
-    while let Some(to) = trail.link_to(from).by {
-        table.shift(trail.link_to(from).ticket, to);
-        from = to;
+    while let Some(link) = trail.link_to(from) {
+        table.shift(link.ticket, link.by);
+        from = link.by;
     }
 }
 

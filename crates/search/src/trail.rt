@@ -10,18 +10,18 @@ ghost use Rattle.search.specs.Visits.{load_in};
 use crate::link::Link;
 use sets::NumberSet;
 use table::Table;
-use vocabulary::{Mill, Ticket};
+use vocabulary::Mill;
 
 /// The most mills that there can be.
 pub(crate) const MILLS: usize = 64;
 
-/// The mills that a search has reached, in the order in which it reached them, and how it reached each.
+/// The mills that a search has reached, in the order in which it reached them, and how it reached each: no link where it began.
 #[derive(Clone, Copy)]
 pub(crate) struct Trail {
     pub(crate) queue: [Mill; MILLS],
     pub(crate) len: usize,
     pub(crate) reached: NumberSet,
-    pub(crate) links: [Link; MILLS],
+    pub(crate) links: [Option<Link>; MILLS],
 }
 
 impl Trail {
@@ -35,15 +35,12 @@ impl Trail {
             queue: [Mill(0); MILLS],
             len: 0,
             reached: NumberSet::empty(),
-            links: [Link {
-                ticket: Ticket(0),
-                by: None,
-            }; MILLS],
+            links: [None; MILLS],
         }
     }
 
     /// Reaches one mill more.
-    pub(crate) fn reach(&mut self, mill: Mill, link: Link)
+    pub(crate) fn reach(&mut self, mill: Mill, link: Option<Link>)
         requires mill { mill.0 < 64 }
         requires room { self.old.len < 64 }
         ensures queue { queue_of self.new ≡ queue_of self.old ++ (mill.0 ∷ []) }
@@ -59,8 +56,8 @@ impl Trail {
         self.links[usize::from(mill.0)] = link;
     }
 
-    /// How a mill was reached.
-    pub(crate) fn link_to(&self, mill: Mill) -> Link
+    /// How a mill was reached, if the search did not begin there.
+    pub(crate) fn link_to(&self, mill: Mill) -> Option<Link>
         requires { mill.0 < 64 }
         ensures { result ≡ link_of self.now mill.0 }
     {

@@ -34,7 +34,7 @@ started c = walk_start _ _ _ _ c.requires.exists c.requires.away c.empty-trail.r
 
 entered : (c : Else-visit) → Walking (meant c.args.table.now) (tally_of c.args.table.now) c.args.ticket.0 c.args.program.0 c.visit.new.self 1 0
 entered c =
-    enter_on _ _ _ _ c.empty-trail.result (started (at-Else-visit c).After-mills_for) c.empty-trail.ensures.none c.mills_for.result c.mills_for.ensures c.args.ticket refl
+    enter_on _ _ _ _ c.empty-trail.result (started (at-Else-visit c).After-mills_for) c.empty-trail.ensures.none c.mills_for.result c.mills_for.ensures
     c.visit.new.self c.requires.some.0 (for_below c.args.table.now c.args.program.0 c.requires.some.0 c.requires.some.1) c.requires.some.1
     (c.if-visit.ensures.all refl) (c.if-visit.ensures.busy refl)
 
@@ -43,7 +43,7 @@ visit-requires c = (started c).sound
 
 pub returns-then-visit : goal.returns-then-visit
 returns-then-visit c =
-    enter_stop _ _ _ _ c.empty-trail.result (started (at-returns-then-visit c).After-mills_for) c.empty-trail.ensures.none c.mills_for.result c.mills_for.ensures c.args.ticket refl
+    enter_stop _ _ _ _ c.empty-trail.result (started (at-returns-then-visit c).After-mills_for) c.empty-trail.ensures.none c.mills_for.result c.mills_for.ensures
     c.visit.new.self (c.if-visit.ensures.stopped refl)
 
 walked : (c : At-search) → Walking (meant c.args.table.now) (tally_of c.args.table.now) c.args.ticket.0 c.args.program.0 c.search.trail (suc c.search.next) 0

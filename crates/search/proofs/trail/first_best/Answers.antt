@@ -1,4 +1,4 @@
-use Rattle.std.proofs.Common.{◌+◌, ◌-◌, ◌<◌, length, sym, ap, ap₂, ◌∙◌, subst, arith}
+use Rattle.std.proofs.Common.{◌+◌, ◌-◌, ◌<◌, length, sym, ap, subst, arith}
 use Rattle.vocabulary.specs.declared.numbers.Mill.{Mill}
 use Rattle.table.specs.Held.{tally_of}
 use Rattle.search.specs.Visits.{load_in}
@@ -15,11 +15,11 @@ loop-mill-preserved g c order weak computes =
     let index = c.loop-mill.mill-index in
     let low : index < length mills - 1 = omega (arith, c.loop-mill-test.true, rest_length mills) in
     let here = ap (λ m. m.0) (rest_at mills index low) in
-    let test = ap₂ order (sym c.load.ensures) (sym c.load-in-loop-mill.ensures) ∙ sym (computes _ _ _ c.beats.ensures) in
+    let told = computes _ _ _ c.beats.ensures in
     let next : Mill → Type 0 = λ mill. FirstTo order (load_in (tally_of c.args.table.now)) mills (index + 1 + 1) mill.0 in
     elim c.if-beats.branch [
-      | then-beats w ↦ subst next (sym w.best-is) (first_new _ _ weak mills (c.loop-mill.invariant order weak computes) (omega arith) _ here (test ∙ w.if-beats.true))
-      | else-beats w ↦ subst next (sym w.best-is) (first_stays _ _ weak mills (c.loop-mill.invariant order weak computes) (omega arith) _ here (test ∙ w.if-beats.false))
+      | then-beats w ↦ subst next (sym w.best-is) (first_new _ _ weak mills (c.loop-mill.invariant order weak computes) (omega arith) _ here (cc))
+      | else-beats w ↦ subst next (sym w.best-is) (first_stays _ _ weak mills (c.loop-mill.invariant order weak computes) (omega arith) _ here (cc))
     ]
 
 pub returns : goal.returns

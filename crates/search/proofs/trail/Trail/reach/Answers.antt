@@ -4,11 +4,7 @@ use Rattle.std.proofs.lemmas.Bool.{lt-ltb}
 use Rattle.sets.specs.Sets.{has}
 use Rattle.sets.proofs.Holds.{and_true}
 use Rattle.search.proofs.TrailLaws.{queue_push, queue_length}
-use Rattle.search.specs.declared.link.Link.{Link}
 use Rattle.search.proofs.trail.Trail.reach.Goals as goal
-
-abbrev nothing : Link
-nothing = record { ticket = record { 0 = 0 }; by = None }
 
 pub returns : goal.returns
 returns c =
@@ -29,6 +25,6 @@ returns c =
       len = sym (queue_length (set queue len mill) (len + 1) longer);
       reached = λ m. c.insert.ensures m ∙ ap (λ b. (eqb m mill.0 && b) || has c.args.self.now.reached m) small ∙ ap (λ b. b || has c.args.self.now.reached m) (and_true (eqb m mill.0));
       links = linked;
-      link = ap (λ l. get_or l mill.0 nothing) linked ∙ get_or-set_same links mill.0 c.args.link nothing (omega arith);
-      others = λ m ne. ap (λ l. get_or l m nothing) linked ∙ get_or-set_other links mill.0 m c.args.link nothing ne;
+      link = ap (λ l. get_or l mill.0 None) linked ∙ get_or-set_same links mill.0 c.args.link None (omega arith);
+      others = λ m ne. ap (λ l. get_or l m None) linked ∙ get_or-set_other links mill.0 m c.args.link None ne;
     }

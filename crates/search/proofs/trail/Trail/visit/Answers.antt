@@ -18,7 +18,7 @@ turn c = record {
   next = c.in-Some.ensures.steps;
 }
 
-reached : (c : After-reach) → Reached (record { ticket = c.args.ticket; by = c.args.by }) c.args.self.now c.reach.new.self (c.loop-mill.yielded ++ (c.in-Some.mill ∷ []))
+reached : (c : After-reach) → Reached c.args.link c.args.self.now c.reach.new.self (c.loop-mill.yielded ++ (c.in-Some.mill ∷ []))
 reached c =
     turn_more c.args.mills c.args.self.now (turn (at-After-reach c).In-Some) c.requires _ c.loop-mill.self c.loop-mill.invariant.0 c.reach.new.self
     c.reach.ensures.queue c.reach.ensures.len c.reach.ensures.reached c.reach.ensures.link c.reach.ensures.others
