@@ -23,7 +23,7 @@ use Rattle.search.proofs.BackwardSteps.{sought_mills}
 use Rattle.search.proofs.CarriedOut.{shop_out, chain_out}
 use Rattle.search.proofs.BackwardWays.{way_back}
 
-module _ {meaning : Meaning} {tally : Tally} {mill : ℕ} {trail : Trail} (S : Sought meaning tally mill trail trail.len 0)
+module _ {meaning : Meaning} {tally : Tally} {mill : ℕ} {trail : Trail} (S : Sought meaning tally mill trail (length (queue_of trail)) 0)
     (semi : SemiMatching (shop_in meaning tally) (placement tally))
     {from : ℕ} (G : Greatest (load (shop_in meaning tally) (placement tally)) (queue_of trail) from) where
   abbrev shop : Shop
@@ -32,8 +32,8 @@ module _ {meaning : Meaning} {tally : Tally} {mill : ℕ} {trail : Trail} (S : S
   abbrev at : Placement
   at = placement tally
 
-  all : (x : ℕ) (s : Step) → In x (queue_of trail) → Backward shop at x s → looked_at trail.len 0 0 (queue_of trail) x s ≡ true
-  all = all_looked S.searched (omega (arith, S.len))
+  all : (x : ℕ) (s : Step) → In x (queue_of trail) → Backward shop at x s → looked_at (length (queue_of trail)) 0 0 (queue_of trail) x s ≡ true
+  all = all_looked S.searched (omega arith)
 
   greatest : (j : ℕ) → j < length (queue_of trail) → load shop at (get_or (queue_of trail) j 0) ≤ load shop at from
   greatest j low = greatest_at (load shop at) (queue_of trail) from G j low

@@ -16,7 +16,7 @@ abbrev numbers_of : List Mill → List ℕ
 numbers_of = map (λ m. m.0)
 
 -- a mill of a list, and how many are left behind the first
-mill_at : (mills : List Mill) (k d : ℕ) → k < length mills → get_or (numbers_of mills) k d ≡ (get_or mills k no_mill).0
+pub mill_at : (mills : List Mill) (k d : ℕ) → k < length mills → get_or (numbers_of mills) k d ≡ (get_or mills k no_mill).0
 mill_at mills k d under = get_or-map (λ m. m.0) mills k no_mill d under
 
 pub rest_length : (mills : List Mill) → length (take (length mills - 1) (drop 1 mills)) ≡ length mills - 1

@@ -1,12 +1,12 @@
 -- What a trail holds.
-use Rattle.std.specs.Prelude.{ℕ, List, map, take, Some, None, Option, slice_index_or}
+use Rattle.std.specs.Prelude.{ℕ, List, map, Some, None, Option, slice_index_or}
 use Rattle.std.specs.Option.{option_map}
 use Rattle.search.specs.declared.link.Link.{Link}
 use Rattle.search.specs.declared.trail.Trail.{Trail}
 
 -- the mills in the order in which they were reached
 abbrev pub queue_of : Trail → List ℕ
-queue_of trail = map (λ mill. mill.0) (take trail.len trail.queue)
+queue_of trail = map (λ mill. mill.0) trail.queue.items
 
 -- how a mill was reached; nothing where the search began
 abbrev pub link_of : Trail → ℕ → Option Link

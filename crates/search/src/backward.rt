@@ -1,18 +1,19 @@
 //! The search back from a mill, and one shift towards it.
-ghost use Rattle.std.specs.Prelude.{◌≡◌, ◌<◌, ◌≤◌, List};
+ghost use Rattle.std.specs.Prelude.{◌≡◌, ◌<◌, List, length};
 ghost use Rattle.capability.specs.Meaning.{Meaning};
 ghost use Rattle.semimatching.specs.Chains.{Step};
 ghost use Rattle.table.specs.Held.{meant, tally_of};
 ghost use Rattle.table.specs.Tally.{Tally};
-ghost use Rattle.search.specs.BackSearches.{Sought, GoesOn, Room, Way, WayOn};
+ghost use Rattle.search.specs.BackSearches.{Sought, GoesOn, Way, WayOn};
 ghost use Rattle.search.specs.Firsts.{Greatest};
 ghost use Rattle.search.specs.Rules.{carried_out};
 ghost use Rattle.search.specs.Shifts.{Shift};
 ghost use Rattle.search.specs.Trails.{queue_of};
 ghost use Rattle.search.specs.Visits.{load_in};
 
+use crate::choice::first_best;
 use crate::link::Link;
-use crate::trail::{Trail, first_best};
+use crate::trail::Trail;
 use table::Table;
 use vocabulary::{Mill, Ticket};
 
@@ -22,7 +23,6 @@ const TICKETS: u16 = 1024;
 impl Trail {
     /// Reaches the mill on which a ticket stands that may go to `towards`, if it is not reached yet.
     fn visit_back(&mut self, table: &Table, ticket: Ticket, towards: Mill)
-        requires { Room self.old }
         ensures { GoesOn (meant table.now) (tally_of table.now) self.old towards.0 ticket.0 self.new }
     {
         if let Some(seat) = table.seat(ticket) {
@@ -54,12 +54,12 @@ fn start_at(mill: Mill) -> Trail
 /// Reaches the mills from which chains lead to a mill, nearest first; ends when no mill in service is left.
 fn search_to(table: &Table, mill: Mill) -> Trail
     requires { mill.0 < 64 }
-    ensures { Sought (meant table.now) (tally_of table.now) mill.0 result result.len 0 }
+    ensures { Sought (meant table.now) (tally_of table.now) mill.0 result (length (queue_of result)) 0 }
 {
     let mut trail = start_at(mill);
     let service = table.service();
     let mut next = 0;
-    while next < trail.len && !service.difference(trail.reached).is_empty() {
+    while next < trail.queue.len() && !service.difference(trail.reached).is_empty() {
         let towards = trail.queue[next];
         for number in 0..TICKETS {
             trail.visit_back(table, Ticket(number), towards);
@@ -71,11 +71,10 @@ fn search_to(table: &Table, mill: Mill) -> Trail
 
 /// The first of the reached mills that has the greatest load.
 fn heaviest(table: &Table, trail: &Trail) -> Mill
-    requires some { 0 < trail.now.len }
-    requires few { trail.now.len ≤ 64 }
+    requires { 0 < length (queue_of trail.now) }
     ensures { Greatest (load_in (tally_of table.now)) (queue_of trail.now) result.0 }
 {
-    first_best(table, &trail.queue[..trail.len], |load, best| load > best)
+    first_best(table, &trail.queue, |load, best| load > best)
 }
 
 /// Moves each ticket on the way from a reached mill on to the mill that it leads to.

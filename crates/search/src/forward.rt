@@ -1,15 +1,16 @@
 //! The search from a new ticket, and placing it.
-ghost use Rattle.std.specs.Prelude.{◌≡◌, ℕ, ◌<◌, true, false, None};
+ghost use Rattle.std.specs.Prelude.{◌≡◌, ℕ, ◌<◌, true, false, length, None};
 ghost use Rattle.table.specs.Held.{meant, tally_of};
 ghost use Rattle.table.specs.Tally.{mill_for};
 ghost use Rattle.search.specs.Firsts.{Lightest};
 ghost use Rattle.search.specs.Routes.{Ended};
 ghost use Rattle.search.specs.Rules.{PlacedByRule, EvenIn};
 ghost use Rattle.search.specs.Trails.{queue_of};
-ghost use Rattle.search.specs.Visits.{Sound, load_in, fresh, Busy, Visited, Stopped};
+ghost use Rattle.search.specs.Visits.{load_in, fresh, Busy, Visited, Stopped};
 
+use crate::choice::first_best;
 use crate::link::Link;
-use crate::trail::{Trail, first_best};
+use crate::trail::Trail;
 use sets::NumberSet;
 use table::{Seat, Table};
 use vocabulary::{Mill, Program, Ticket};
@@ -17,7 +18,6 @@ use vocabulary::{Mill, Program, Ticket};
 impl Trail {
     /// Reaches those of some mills that are not reached yet, in rising order; stops at the first that is empty, and tells so.
     fn visit(&mut self, table: &Table, mills: NumberSet, link: Option<Link>) -> bool
-        requires { Sound self.old }
         ensures busy { result ≡ false → Busy (load_in (tally_of table.now)) (fresh mills self.old) 64 }
         ensures all { result ≡ false → Visited (fresh mills self.old) link 64 self.old self.new }
         ensures stopped { result ≡ true → Stopped (load_in (tally_of table.now)) (fresh mills self.old) link self.old self.new }
@@ -47,7 +47,7 @@ fn search_from(table: &Table, ticket: Ticket, program: Program) -> Trail
     }
     let service = table.service();
     let mut next = 0;
-    'search: while next < trail.len && !service.difference(trail.reached).is_empty() {
+    'search: while next < trail.queue.len() && !service.difference(trail.reached).is_empty() {
         let mill = trail.queue[next];
         for number in 0..1024 {
             if let Some(seat) = table.seat(Ticket(number)) {
@@ -69,11 +69,10 @@ fn search_from(table: &Table, ticket: Ticket, program: Program) -> Trail
 
 /// The first of the reached mills that has the least load.
 fn lightest(table: &Table, trail: &Trail) -> Mill
-    requires sound { Sound trail.now }
-    requires some { 0 < trail.now.len }
+    requires { 0 < length (queue_of trail.now) }
     ensures { Lightest (load_in (tally_of table.now)) (queue_of trail.now) result.0 }
 {
-    first_best(table, &trail.queue[..trail.len], |load, best| load < best)
+    first_best(table, &trail.queue, |load, best| load < best)
 }
 
 /// Places a ticket by the rule of adding, and tells its mill.

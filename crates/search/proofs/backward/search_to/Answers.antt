@@ -1,8 +1,8 @@
-use Rattle.std.proofs.Common.{◌<◌, sym, arith, rules}
+use Rattle.std.proofs.Common.{sym, arith}
 use Rattle.table.specs.Held.{meant, tally_of}
-use Rattle.table.proofs.TableLaws.{semi}
 use Rattle.search.specs.BackSearches.{Sought}
-use Rattle.search.proofs.BackwardSteps.{sought_first, sought_from, sought_few, sought_room, sought_done, sought_rest, queue_at, visit_first, visit_last, stands_reached}
+use Rattle.search.proofs.BackwardSteps.{sought_first, sought_from, sought_done, sought_rest, visit_last, stands_reached}
+use Rattle.search.proofs.TrailLaws.{queue_length}
 use Rattle.search.proofs.SearchFrom.{all_reached}
 use Rattle.search.proofs.backward.search_to.Goals as goal
 use Rattle.search.proofs.backward.search_to.Goals.{At-loop-next, at-returns-else-not-is_empty, at-returns-after-loop-next}
@@ -12,28 +12,8 @@ loop-next-init c =
     let S = c.start_at-trail.ensures _ _ in
     (omega arith, sought_from S _ (sym (sought_first S)))
 
-pub bounds-trail-next : goal.bounds-trail-next
-bounds-trail-next c = omega (arith, sought_few c.loop-next.invariant.1 (semi c.args.table.now), c.loop-next-test.true)
-
-pub loop-number-init : goal.loop-number-init
-loop-number-init c =
-    let S = c.loop-next.invariant.1 in
-    visit_first (sought_from S _ (sym (sought_first S))) c.loop-next-test.true (queue_at c.loop-next.trail c.loop-next.next S.len c.loop-next-test.true)
-
-pub visit_back-requires : goal.visit_back-requires
-visit_back-requires c = sought_room c.loop-number.invariant.sought (semi c.args.table.now)
-
 pub loop-number-preserved : goal.loop-number-preserved
 loop-number-preserved c = c.visit_back.ensures _ _ c.loop-number.invariant
-
-under : (c : goal.After-loop-number) → c.loop-next.next < 64
-under c = omega (arith, sought_few c.loop-next.invariant.1 (semi c.args.table.now), c.loop-next-test.true)
-
-pub overflow_add-next : goal.overflow_add-next
-overflow_add-next c = let low = under c in search rules
-
-pub loop-next-smaller : goal.loop-next-smaller
-loop-next-smaller c = omega (arith, under c)
 
 pub loop-next-preserved : goal.loop-next-preserved
 loop-next-preserved c =
@@ -50,4 +30,4 @@ returns-else-not-is_empty c =
     (all_reached (tally_of c.args.table.now) c.loop-next.trail c.service-service.result c.difference.result c.service-service.ensures c.difference.ensures c.if-not-is_empty.ensures))
 
 pub returns-after-loop-next : goal.returns-after-loop-next
-returns-after-loop-next c = sought_done (sought (at-returns-after-loop-next c).At-loop-next) c.loop-next.invariant.0 c.loop-next-test.false
+returns-after-loop-next c = sought_done (sought (at-returns-after-loop-next c).At-loop-next) c.loop-next.invariant.0 (omega (arith, queue_length c.loop-next.trail, c.len.ensures.value, c.loop-next-test.false))

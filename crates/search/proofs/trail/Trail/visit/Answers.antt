@@ -3,7 +3,7 @@ use Rattle.std.proofs.lemmas.Bool.{true≢false, false≢true}
 use Rattle.sets.proofs.Members.{members_split}
 use Rattle.table.specs.Held.{tally_of}
 use Rattle.search.specs.Visits.{load_in}
-use Rattle.search.proofs.VisitSteps.{Turn, Reached, reached_none, laden_more, turn_below, turn_room, turn_more, turn_stopped, visit_all, visit_busy}
+use Rattle.search.proofs.VisitSteps.{Turn, Reached, reached_none, laden_more, turn_below, turn_unreached, turn_more, turn_stopped, visit_all, visit_busy}
 use Rattle.search.proofs.trail.Trail.visit.Goals as goal
 use Rattle.search.proofs.trail.Trail.visit.Goals.{In-Some, After-reach, at-After-reach, at-reach-requires, at-returns-then-empty, at-loop-mill-preserved}
 
@@ -20,16 +20,16 @@ turn c = record {
 
 reached : (c : After-reach) → Reached c.args.link c.args.self.now c.reach.new.self (c.loop-mill.yielded ++ (c.in-Some.mill ∷ []))
 reached c =
-    turn_more c.args.mills c.args.self.now (turn (at-After-reach c).In-Some) c.requires _ c.loop-mill.self c.loop-mill.invariant.0 c.reach.new.self
-    c.reach.ensures.queue c.reach.ensures.len c.reach.ensures.reached c.reach.ensures.link c.reach.ensures.others
+    turn_more c.args.mills c.args.self.now (turn (at-After-reach c).In-Some) _ c.loop-mill.self c.loop-mill.invariant.0 c.reach.new.self
+    c.reach.ensures.queue c.reach.ensures.link c.reach.ensures.others
 
 pub loop-mill-init : goal.loop-mill-init
-loop-mill-init c = (reached_none _ _ c.requires, λ m i. absurd i)
+loop-mill-init c = (reached_none _ _, λ m i. absurd i)
 
 pub reach-requires : goal.reach-requires
 reach-requires c =
     let T = turn (at-reach-requires c).In-Some in
-    record { mill = turn_below _ _ T; room = turn_room _ _ T c.requires _ _ c.loop-mill.invariant.0 }
+    record { mill = turn_below _ _ T; new = turn_unreached _ _ T _ _ c.loop-mill.invariant.0 }
 
 pub returns-then-empty : goal.returns-then-empty
 returns-then-empty c = record {

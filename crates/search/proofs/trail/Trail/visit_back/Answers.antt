@@ -8,14 +8,14 @@ use Rattle.search.proofs.trail.Trail.visit_back.Goals.{else-not-contains-via-the
 pub reach-requires : goal.reach-requires
 reach-requires c =
     let low = seat_low c.args.table.now c.args.ticket.0 (place_of c.in-Some.seat) (sym c.in-Some.ensures) in
-    record { mill = low; room = c.requires _ low (sym c.if-not-contains.ensures) }
+    record { mill = low; new = sym c.if-not-contains.ensures }
 
 pub returns-then-contains : goal.returns-then-contains
 returns-then-contains c mill place V =
     let seat = sym c.in-Some.ensures in
     visit_new V (place_of c.in-Some.seat) seat (sym c.if-not-contains.ensures) (sym (c.mills_for.ensures _) ∙ sym c.if-contains.ensures)
     (stands_few c.args.table.now _ _ seat) (semi c.args.table.now)
-    (record { queue = c.reach.ensures.queue; len = c.reach.ensures.len; reached = c.reach.ensures.reached; links = c.reach.ensures.links })
+    (record { queue = c.reach.ensures.queue; here = c.reach.ensures.link; others = c.reach.ensures.others })
 
 pub returns-else-not-contains : goal.returns-else-not-contains
 returns-else-not-contains c mill place V =

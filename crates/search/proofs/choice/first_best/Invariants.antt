@@ -4,7 +4,7 @@ use Rattle.table.specs.Held.{tally_of}
 use Rattle.search.specs.Firsts.{Computes}
 use Rattle.search.specs.Visits.{load_in}
 use Rattle.search.proofs.FirstSteps.{FirstTo}
-use Rattle.search.proofs.trail.first_best.Given as goal
+use Rattle.search.proofs.choice.first_best.Given as goal
 
 -- for whatever order the closure tells
 abbrev pub invariant-loop-mill : goal.invariant-loop-mill

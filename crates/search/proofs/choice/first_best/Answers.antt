@@ -3,8 +3,8 @@ use Rattle.vocabulary.specs.declared.numbers.Mill.{Mill}
 use Rattle.table.specs.Held.{tally_of}
 use Rattle.search.specs.Visits.{load_in}
 use Rattle.search.proofs.FirstSteps.{FirstTo, rest_length, rest_at, first_start, first_new, first_stays, first_all}
-use Rattle.search.proofs.trail.first_best.Goals as goal
-use Rattle.search.proofs.trail.first_best.Goals.{then-beats, else-beats}
+use Rattle.search.proofs.choice.first_best.Goals as goal
+use Rattle.search.proofs.choice.first_best.Goals.{then-beats, else-beats}
 
 pub loop-mill-init : goal.loop-mill-init
 loop-mill-init g c order weak computes = first_start _ _ weak _ c.requires.some
