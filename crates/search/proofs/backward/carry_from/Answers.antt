@@ -15,5 +15,5 @@ pub loop-link-preserved : goal.loop-link-preserved
 loop-link-preserved c =
     (c.shift.ensures.meaning ∙ c.loop-link.invariant.0, carry_step c.loop-link.invariant.1 _ (sym c.link_to.ensures ∙ c.in-Some.is) _ _ c.shift.ensures.meaning c.shift.ensures.tally)
 
-pub returns : goal.returns
-returns c = record { meaning = c.loop-link.invariant.0; tally = carry_end c.loop-link.invariant.1 (sym c.link_to.ensures ∙ c.in_default.is) }
+pub returns-clause-tally : goal.returns-clause-tally
+returns-clause-tally c = carry_end c.loop-link.invariant.1 (sym c.link_to.ensures ∙ c.in_default.is)

@@ -2,12 +2,9 @@ use Rattle.std.proofs.Common.{◌+◌, ◌-◌, ◌<◌, length, sym, ap, subst,
 use Rattle.vocabulary.specs.declared.numbers.Mill.{Mill}
 use Rattle.table.specs.Held.{tally_of}
 use Rattle.search.specs.Visits.{load_in}
-use Rattle.search.proofs.FirstSteps.{FirstTo, rest_length, rest_at, first_start, first_new, first_stays, first_all}
+use Rattle.search.proofs.FirstSteps.{FirstTo, rest_length, rest_at, first_new, first_stays}
 use Rattle.search.proofs.choice.first_best.Goals as goal
 use Rattle.search.proofs.choice.first_best.Goals.{then-beats, else-beats}
-
-pub loop-mill-init : goal.loop-mill-init
-loop-mill-init g c order weak computes = first_start _ _ weak _ c.requires.some
 
 pub loop-mill-preserved : goal.loop-mill-preserved
 loop-mill-preserved g c order weak computes =
@@ -21,7 +18,3 @@ loop-mill-preserved g c order weak computes =
       | then-beats w ↦ subst next (sym w.best-is) (first_new _ _ weak mills (c.loop-mill.invariant order weak computes) (omega arith) _ here (cc))
       | else-beats w ↦ subst next (sym w.best-is) (first_stays _ _ weak mills (c.loop-mill.invariant order weak computes) (omega arith) _ here (cc))
     ]
-
-pub returns : goal.returns
-returns g c order weak computes =
-    first_all _ _ weak c.args.mills.now _ _ (c.loop-mill.invariant order weak computes) (omega (arith, c.requires.some, c.loop-mill-test.false, rest_length c.args.mills.now))

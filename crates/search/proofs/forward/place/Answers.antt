@@ -29,25 +29,25 @@ loop-link-preserved c =
       follow_on _ _ _ _ _ _ c.loop-link.invariant.1 c.requires.away _ on c.in-Some.link.ticket.0 (link_ticket c.search_from-trail.result c.loop-link.to.0 c.link_to.result c.link_to.ensures c.args.ticket.0 c.in-Some.link c.in-Some.is) _ c.shift.ensures.tally,
     )
 
-pub put-requires : goal.put-requires
-put-requires c =
-    let end = link_end c.search_from-trail.result c.loop-link.to.0 c.link_to.result c.link_to.ensures c.in_default.is in
-    record {
-      exists = c.requires.exists;
-      away = end_away _ _ _ _ _ _ c.loop-link.invariant.1 c.requires.away end;
-      may = end_may _ _ _ _ _ _ c.loop-link.invariant.1 c.requires.away end (meant c.loop-link.table) c.loop-link.invariant.0;
-    }
+pub put-requires-clause-away : goal.put-requires-clause-away
+put-requires-clause-away c =
+    end_away _ _ _ _ _ _ c.loop-link.invariant.1 c.requires.away (link_end c.search_from-trail.result c.loop-link.to.0 c.link_to.result c.link_to.ensures c.in_default.is)
 
-pub returns : goal.returns
-returns c =
+pub put-requires-clause-may : goal.put-requires-clause-may
+put-requires-clause-may c =
+    end_may _ _ _ _ _ _ c.loop-link.invariant.1 c.requires.away (link_end c.search_from-trail.result c.loop-link.to.0 c.link_to.result c.link_to.ensures c.in_default.is)
+    (meant c.loop-link.table) c.loop-link.invariant.0
+
+pub returns-clause-rule : goal.returns-clause-rule
+returns-clause-rule c =
+    let end = link_end c.search_from-trail.result c.loop-link.to.0 c.link_to.result c.link_to.ensures c.in_default.is in
+    end_rule _ _ _ _ _ _ c.loop-link.invariant.1 c.requires.away end (tally_of c.put.new.self) c.put.ensures.tally
+
+pub returns-clause-even : goal.returns-clause-even
+returns-clause-even c even =
     let end = link_end c.search_from-trail.result c.loop-link.to.0 c.link_to.result c.link_to.ensures c.in_default.is in
     let same : meant c.put.new.self ≡ meant c.args.table.now = c.put.ensures.meaning ∙ c.loop-link.invariant.0 in
     let after = tally_of c.put.new.self in
-    record {
-      meaning = same;
-      rule = end_rule _ _ _ _ _ _ c.loop-link.invariant.1 c.requires.away end after c.put.ensures.tally;
-      even = λ even.
-          subst (λ m. EvenIn m after) (sym same)
-          (end_even _ _ _ _ _ _ c.loop-link.invariant.1 c.requires.away end after c.put.ensures.tally (semi c.args.table.now)
-          (subst (λ m. SemiMatching (shop_in m after) (placement after)) same (semi c.put.new.self)) even);
-    }
+    subst (λ m. EvenIn m after) (sym same)
+    (end_even _ _ _ _ _ _ c.loop-link.invariant.1 c.requires.away end after c.put.ensures.tally (semi c.args.table.now)
+    (subst (λ m. SemiMatching (shop_in m after) (placement after)) same (semi c.put.new.self)) even)

@@ -4,6 +4,3 @@ use Rattle.search.proofs.trail.Trail.empty.Goals as goal
 
 pub invariant_of-result-clause-once : goal.invariant_of-result-clause-once
 invariant_of-result-clause-once c = ap length c.new.ensures ∙ once_none c.empty.result c.empty.ensures
-
-pub invariant_of-result-clause-known : goal.invariant_of-result-clause-known
-invariant_of-result-clause-known c = rw c.new.ensures c.empty.ensures
