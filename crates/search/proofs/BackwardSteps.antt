@@ -46,15 +46,8 @@ seek_start mill before link after R low root empty meaning tally =
     }
 
 module _ {meaning : Meaning} {tally : Tally} {mill : ℕ} {trail : Trail} {place t : ℕ} (S : Sought meaning tally mill trail place t) where
-  -- the mill is the first of the queue
-  pub sought_first : get_or (queue_of trail) 0 0 ≡ mill
-  sought_first = (start_first S.searched.found).1
-
   pub sought_some : 0 < length (queue_of trail)
   sought_some = (start_first S.searched.found).0
-
-  pub sought_from : (m : ℕ) → mill ≡ m → Sought meaning tally m trail place t
-  sought_from m e = subst (λ k. Sought meaning tally k trail place t) e S
 
   -- the search has come to the end of the queue
   pub sought_done : place ≤ length (queue_of trail) → length (queue_of trail) ≤ place → Sought meaning tally mill trail (length (queue_of trail)) t

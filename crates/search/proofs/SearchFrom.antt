@@ -55,13 +55,6 @@ pub record Standing (meaning : Meaning) (tally : Tally) (n program : ℕ) (trail
   pub low : next < length (queue_of trail)
   pub is : get_or (queue_of trail) next 0 ≡ mill
 
--- what the two loops keep, for whatever ticket and program
-abbrev pub Walks : Meaning → Tally → Trail → Trail → ℕ → Type 0
-Walks meaning tally start trail h = (n program : ℕ) → Walking meaning tally n program start 1 0 → Walking meaning tally n program trail h 0
-
-abbrev pub Stands : Meaning → Tally → Trail → Trail → ℕ → ℕ → ℕ → Type 0
-Stands meaning tally start trail next mill t = (n program : ℕ) → Standing meaning tally n program start next mill 0 → Standing meaning tally n program trail next mill t
-
 in_numbers : (f : ℕ → Bool) (bound m : ℕ) → m < bound → f m ≡ true → In m (numbers f bound)
 in_numbers f bound m low y = (is_member m (numbers f bound)).0 (member-numbers f m bound ∙ and_from (ltb m bound) (f m) (lt-ltb m bound low) y)
 

@@ -1,9 +1,7 @@
 //! The search back from a mill, and one shift towards it.
 ghost use Rattle.std.specs.Prelude.{◌≡◌, ◌<◌, List, length};
-ghost use Rattle.capability.specs.Meaning.{Meaning};
 ghost use Rattle.semimatching.specs.Chains.{Step};
 ghost use Rattle.table.specs.Held.{meant, tally_of};
-ghost use Rattle.table.specs.Tally.{Tally};
 ghost use Rattle.search.specs.BackSearches.{Sought, GoesOn, Way, WayOn};
 ghost use Rattle.search.specs.Firsts.{Greatest};
 ghost use Rattle.search.specs.Rules.{carried_out};
@@ -13,12 +11,9 @@ ghost use Rattle.search.specs.Visits.{load_in};
 
 use crate::choice::first_best;
 use crate::link::Link;
-use crate::trail::Trail;
+use crate::trail::{TICKETS, Trail};
 use table::Table;
 use vocabulary::{Mill, Ticket};
-
-/// The most tickets that there can be.
-const TICKETS: u16 = 1024;
 
 impl Trail {
     /// Reaches the mill on which a ticket stands that may go to `towards`, if it is not reached yet.
@@ -41,24 +36,16 @@ impl Trail {
     }
 }
 
-/// A trail on which the search back from a mill begins: no other is reached.
-fn start_at(mill: Mill) -> Trail
-    requires { mill.0 < 64 }
-    ensures { (meaning : Meaning) (tally : Tally) → Sought meaning tally mill.0 result 0 0 }
-{
-    let mut trail = Trail::empty();
-    trail.reach(mill, None);
-    trail
-}
-
 /// Reaches the mills from which chains lead to a mill, nearest first; ends when no mill in service is left.
 fn search_to(table: &Table, mill: Mill) -> Trail
     requires { mill.0 < 64 }
     ensures { Sought (meant table.now) (tally_of table.now) mill.0 result (length (queue_of result)) 0 }
 {
-    let mut trail = start_at(mill);
+    let mut trail = Trail::empty();
+    trail.reach(mill, None);
     let service = table.service();
     let mut next = 0;
+    // The queue grows under the loop, so no iterator can borrow it.
     while next < trail.queue.len() && !service.difference(trail.reached).is_empty() {
         let towards = trail.queue[next];
         for number in 0..TICKETS {

@@ -10,7 +10,7 @@ ghost use Rattle.search.specs.Visits.{load_in, fresh, Busy, Visited, Stopped};
 
 use crate::choice::first_best;
 use crate::link::Link;
-use crate::trail::Trail;
+use crate::trail::{TICKETS, Trail};
 use sets::NumberSet;
 use table::{Seat, Table};
 use vocabulary::{Mill, Program, Ticket};
@@ -47,9 +47,10 @@ fn search_from(table: &Table, ticket: Ticket, program: Program) -> Trail
     }
     let service = table.service();
     let mut next = 0;
+    // The queue grows under the loop, so no iterator can borrow it.
     'search: while next < trail.queue.len() && !service.difference(trail.reached).is_empty() {
         let mill = trail.queue[next];
-        for number in 0..1024 {
+        for number in 0..TICKETS {
             if let Some(seat) = table.seat(Ticket(number)) {
                 let link = Link {
                     ticket: Ticket(number),

@@ -7,6 +7,9 @@ use arrayvec::ArrayVec;
 use sets::NumberSet;
 use vocabulary::Mill;
 
+/// The most tickets that there can be.
+pub(crate) const TICKETS: u16 = 1024;
+
 /// The most mills that there can be.
 const MILLS: usize = 64;
 
