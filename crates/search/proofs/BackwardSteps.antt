@@ -100,7 +100,7 @@ module _ {meaning : Meaning} {tally : Tally} {mill : ℕ} {trail : Trail} {place
 
   -- the ticket does not stand
   pub visit_none : tally.seat t ≡ None → Visiting meaning tally mill trail place towards (t + 1)
-  visit_none away = on (back_skip shop at mill S.searched towards under V.here (λ m stands may. let z : ◌≡◌ {A = ℕ} 0 1 = cc in omega arith))
+  visit_none away = on (back_skip shop at mill S.searched towards under V.here (λ m stands may. cc))
 
   module _ (p : Place) (seat : tally.seat t ≡ Some p) where
     stands : at t ≡ Some p.mill

@@ -101,7 +101,7 @@ module _ {meaning : Meaning} {before done : Tally} {trail : Trail} {start from :
     first = record { ticket = link.ticket.0; mill = link.by.0 }
 
     later : (steps : List Step) → Way trail from steps → (ss : List Step) × (steps ≡ first ∷ ss) × Way trail link.by.0 ss
-    later [] w = let z : ◌≡◌ {A = ℕ} 0 1 = cc in absurd (omega arith)
+    later [] w = absurd (cc)
     later (s ∷ ss) w =
         let same = sym w.0 ∙ is in
         let mill : s.mill ≡ link.by.0 = ap node_of same in

@@ -34,7 +34,7 @@ module _ (meaning : Meaning) (tally : Tally) (n program : ℕ) where
 
     -- who stands is another ticket
     pub stands_other : (t m : ℕ) → placement tally t ≡ Some m → t ≡ n → ⊥
-    stands_other t m stands e = let none = not_placed in let z : ◌≡◌ {A = ℕ} 0 1 = cc in omega arith
+    stands_other t m stands e = let none = not_placed in cc
 
     pub semi_for : SemiMatching (shop_in meaning tally) (placement tally) → SemiMatching (shop_for meaning tally n program) (placement tally)
     semi_for semi t m exists stands = let was = semi t m exists stands in (was.0, for_other t m (stands_other t m stands) ∙ was.1)

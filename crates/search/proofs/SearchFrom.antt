@@ -62,12 +62,6 @@ some_in : (x : ℕ) (xs : List ℕ) → In x xs → 0 < length xs
 some_in x [] i = absurd i
 some_in x (y ∷ ys) i = omega arith
 
-some_same : {A : Type 0} {x y : A} → ◌≡◌ {A = Option A} (Some x) (Some y) → x ≡ y
-some_same e = cc
-
-none-some : (x : ℕ) → ◌≡◌ {A = Option ℕ} None (Some x) → ⊥
-none-some x e = let z : ◌≡◌ {A = ℕ} 0 1 = cc in omega arith
-
 -- a mill that a ticket may stand on is in service
 served : (meaning : Meaning) (tally : Tally) (n program t m : ℕ) → (shop_for meaning tally n program).can t m ≡ true → tally.service m ≡ true
 served meaning tally n program t m may = go (eqb t n) (tally.seat t) may
@@ -147,12 +141,12 @@ module _ (meaning : Meaning) (tally : Tally) (n program : ℕ) where
     enter_on m low may V busy = record {
       exists = W.exists;
       away = W.away;
-      going = going_in _ _ n (visit_on trail W 64 (omega arith) refl mills first_leaves first_link refl refl (λ x e. absurd (none-some x e)) after V busy);
+      going = going_in _ _ n (visit_on trail W 64 (omega arith) refl mills first_leaves first_link refl refl (λ x e. absurd (cc)) after V busy);
       some = λ later. enter_some m low may V;
     }
 
     pub enter_stop : Stopped (load_in tally) (fresh mills trail) first_link trail after → Ended meaning tally n program after
-    enter_stop = visit_stop trail W 64 (omega arith) refl mills first_leaves first_link refl refl (λ x e. absurd (none-some x e)) after
+    enter_stop = visit_stop trail W 64 (omega arith) refl mills first_leaves first_link refl refl (λ x e. absurd (cc)) after
 
   -- ---- from the mill in a place of the queue
 
@@ -250,10 +244,10 @@ for_below table program m may = service_few table m (and_parts ((meant table).ab
 
 -- a ticket that does not stand on the mill
 pub seat_none : (tally : Tally) (t mill : ℕ) → option_map place_of None ≡ tally.seat t → placement tally t ≡ Some mill → ⊥
-seat_none tally t mill seat on = none-some mill (ap (option_map (λ place. place.mill)) seat ∙ on)
+seat_none tally t mill seat on = let none : ◌≡◌ {A = Option ℕ} None (Some mill) = ap (option_map (λ place. place.mill)) seat ∙ on in cc
 
 pub seat_other : (tally : Tally) (t mill : ℕ) (seat : Seat) → option_map place_of (Some seat) ≡ tally.seat t → (seat.mill.0 ≡ mill → ⊥) → placement tally t ≡ Some mill → ⊥
-seat_other tally t mill seat is other on = other (some_same (ap (option_map (λ place. place.mill)) is ∙ on))
+seat_other tally t mill seat is other on = let same : ◌≡◌ {A = Option ℕ} (Some seat.mill.0) (Some mill) = ap (option_map (λ place. place.mill)) is ∙ on in other (cc)
 
 -- no mill in service is left out
 pub all_reached : (tally : Tally) (trail : Trail) (service left : NumberSet) → ((m : ℕ) → has service m ≡ tally.service m)
