@@ -125,7 +125,13 @@ pub record Following (meaning : Meaning) (before : Tally) (n program : ℕ) (tic
   pub leads : Leads 64 ticket from rest to
   pub is : tally ≡ carried_out before done
 
-module _ (meaning : Meaning) (before : Tally) (n program : ℕ) (ticket : ℕ → ℕ) (from : ℕ → Option ℕ) where
+module _ (meaning : Meaning) (before : Tally) (n program : ℕ) (trail : Trail) where
+  abbrev ticket : ℕ → ℕ
+  ticket = ticket_of n trail
+
+  abbrev from : ℕ → Option ℕ
+  from = from_of trail
+
   pub follow_start : (to : ℕ) → Route (shop_for meaning before n program) (placement before) n ticket from to → Following meaning before n program ticket from before to
   follow_start to route = record { end = to; route = route; done = []; rest = _; whole = refl; leads = route.links; is = refl }
 
@@ -150,12 +156,18 @@ module _ (meaning : Meaning) (before : Tally) (n program : ℕ) (ticket : ℕ �
         )
 
     -- the next link leads to another mill
-    module _ (away : before.seat n ≡ None) (v : ℕ) (on : from to ≡ Some v) where
+    module _ (away : before.seat n ≡ None) (link : Link) (on : link_of trail to ≡ Some link) where
+      abbrev v : ℕ
+      v = link.by.0
+
+      same : link.ticket.0 ≡ ticket to
+      same = ap (ticket_in n) (sym on)
+
       abbrev here : Step
       here = record { ticket = ticket to; mill = to }
 
       next : Onward 64 ticket from F.rest to v
-      next = leads_on 64 ticket from F.rest to v on F.leads
+      next = leads_on 64 ticket from F.rest to v (ap (option_map (λ l. l.by.0)) on) F.leads
 
       -- its ticket is not the new one
       inner : (ending : (init : List Step) × (last : Step) × (next.after ∷ next.left ≡ init ++ (last ∷ []))) → F.done ++ (here ∷ ending.0) ≡ reverse F.route.steps
@@ -177,23 +189,22 @@ module _ (meaning : Meaning) (before : Tally) (n program : ℕ) (ticket : ℕ �
           may_place meaning tally.service (tally.seat (ticket to)) to
           (subst (λ k. (shop_in meaning k).can (ticket to) to ≡ true) (sym F.is) (out_can meaning before F.done (ticket to) to ∙ may))
 
-      module _ (moving : ℕ) (same : moving ≡ ticket to) where
-        -- what `shift` asks for
-        pub follow_may : (meant : Meaning) → meant ≡ meaning → (place : Place) × (tally.seat moving ≡ Some place) × (mill_for meant tally.service place.program to ≡ true)
-        follow_may meant e = (stands.0, ap tally.seat same ∙ stands.1, ap (λ m. mill_for m tally.service stands.0.program to) e ∙ stands.2)
+      -- what `shift` asks for
+      pub follow_may : (meant : Meaning) → meant ≡ meaning → (place : Place) × (tally.seat link.ticket.0 ≡ Some place) × (mill_for meant tally.service place.program to ≡ true)
+      follow_may meant e = (stands.0, ap tally.seat same ∙ stands.1, ap (λ m. mill_for m tally.service stands.0.program to) e ∙ stands.2)
 
-        pub follow_on : (after : Tally) → ((place : Place) → tally.seat moving ≡ Some place → after ≡ seated tally moving (Some (record { program = place.program; mill = to })))
-            → Following meaning before n program ticket from after v
-        follow_on after shifted = record {
-          end = F.end;
-          route = F.route;
-          done = F.done ++ (here ∷ []);
-          rest = next.after ∷ next.left;
-          whole = append_assoc F.done (here ∷ []) (next.after ∷ next.left) ∙ ap (λ l. F.done ++ l) (sym next.is) ∙ F.whole;
-          leads = next.leads;
-          is = shifted stands.0 (ap tally.seat same ∙ stands.1) ∙ ap (λ k. seated tally k (Some (record { program = stands.0.program; mill = to }))) same
-              ∙ seated-relocated tally here stands.0 stands.1 ∙ ap (λ k. relocated k here) F.is ∙ sym (out_push before F.done here);
-        }
+      pub follow_on : (after : Tally) → ((place : Place) → tally.seat link.ticket.0 ≡ Some place → after ≡ seated tally link.ticket.0 (Some (record { program = place.program; mill = to })))
+          → Following meaning before n program ticket from after v
+      follow_on after shifted = record {
+        end = F.end;
+        route = F.route;
+        done = F.done ++ (here ∷ []);
+        rest = next.after ∷ next.left;
+        whole = append_assoc F.done (here ∷ []) (next.after ∷ next.left) ∙ ap (λ l. F.done ++ l) (sym next.is) ∙ F.whole;
+        leads = next.leads;
+        is = shifted stands.0 (ap tally.seat same ∙ stands.1) ∙ ap (λ k. seated tally k (Some (record { program = stands.0.program; mill = to }))) same
+            ∙ seated-relocated tally here stands.0 stands.1 ∙ ap (λ k. relocated k here) F.is ∙ sym (out_push before F.done here);
+      }
 
       pub follow_less : hops 64 from v < hops 64 from to
       follow_less =
@@ -206,11 +217,11 @@ module _ (meaning : Meaning) (before : Tally) (n program : ℕ) (ticket : ℕ �
           )
 
     -- the next link leads to the new ticket
-    module _ (away : before.seat n ≡ None) (end : from to ≡ None) where
+    module _ (away : before.seat n ≡ None) (root : link_of trail to ≡ None) where
       ending : (F.done ≡ reverse F.route.steps) × (record { ticket = ticket to; mill = to } ≡ first)
       ending =
           same_from_push F.done (reverse F.route.steps) (record { ticket = ticket to; mill = to }) first
-          (ap (λ l. F.done ++ l) (sym (leads_end 64 ticket from F.rest to end F.leads)) ∙ F.whole ∙ reverse-cons first F.route.steps)
+          (ap (λ l. F.done ++ l) (sym (leads_end 64 ticket from F.rest to (ap (option_map (λ l. l.by.0)) root) F.leads)) ∙ F.whole ∙ reverse-cons first F.route.steps)
 
       pub end_first : to ≡ F.route.first
       end_first = ap (λ s. s.mill) ending.1
@@ -242,15 +253,3 @@ module _ (meaning : Meaning) (before : Tally) (n program : ℕ) (ticket : ℕ �
           choice = subst (λ m. Placing (shop_for meaning before n program) (placement before) n m F.route.steps F.end) (sym end_first) F.route.placing;
           result = end_result;
         }
-
--- ---- the links as the code reads them
-
-module _ (trail : Trail) (to : ℕ) (read : Option Link) (is : read ≡ link_of trail to) where
-  pub link_on : (link : Link) → read ≡ Some link → from_of trail to ≡ Some link.by.0
-  link_on link here = ap (option_map (λ l. l.by.0)) (sym is ∙ here)
-
-  pub link_end : read ≡ None → from_of trail to ≡ None
-  link_end here = ap (option_map (λ l. l.by.0)) (sym is ∙ here)
-
-  pub link_ticket : (n : ℕ) (link : Link) → read ≡ Some link → link.ticket.0 ≡ ticket_of n trail to
-  link_ticket n link here = ap (ticket_in n) (sym here ∙ is)
