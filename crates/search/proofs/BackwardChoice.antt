@@ -58,10 +58,10 @@ module _ {meaning : Meaning} {tally : Tally} {mill : ℕ} {trail : Trail} (S : S
   -- a chain improves
   module _ (better : load shop at mill + 2 ≤ load shop at from) where
     chosen : ChosenBack shop at mill (S.path from) from
-    chosen = choose_greatest shop at mill S.searched.found all G.place from under G.is (sought_mills S semi from from_in) better greatest (greatest_before (load shop at) (queue_of trail) from G)
+    chosen = choose_greatest shop at mill S.searched.found all G.place from under G.is (sought_mills S from from_in) better greatest (greatest_before (load shop at) (queue_of trail) from G)
 
     way : Way trail from chosen.steps
-    way = way_back S semi from chosen.steps from_in chosen.shifting.chain.linked chosen.is
+    way = way_back S from chosen.steps from_in chosen.shifting.chain.linked chosen.is
 
     pub chosen_on : WayOn meaning tally trail from
     chosen_on = record { mill = mill; steps = chosen.steps; chain = chosen.shifting.chain; way = way }

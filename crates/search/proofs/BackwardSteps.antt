@@ -7,9 +7,9 @@ use Rattle.std.proofs.lemmas.Bool.Decides.{not_from_Decides}
 use Rattle.sets.specs.Sets.{has, member}
 use Rattle.capability.specs.Meaning.{Meaning}
 use Rattle.semimatching.specs.Chains.{Step}
-use Rattle.semimatching.specs.Placements.{Shop, Placement, SemiMatching}
+use Rattle.semimatching.specs.Placements.{Shop, Placement}
 use Rattle.semimatching.specs.Searches.{Backward}
-use Rattle.semimatching.proofs.BackwardSearch.{back_start, back_skip, back_known, back_new, back_node, back_rest, back_mills}
+use Rattle.semimatching.proofs.BackwardSearch.{back_start, back_skip, back_known, back_new, back_node, back_rest}
 use Rattle.semimatching.proofs.Carrying.{In}
 use Rattle.semimatching.proofs.Links.{Links, links_start, links_new}
 use Rattle.semimatching.proofs.Places.{in_place}
@@ -33,16 +33,15 @@ pub record Reached (before : Trail) (mill : ℕ) (link : Option Link) (after : T
 
 -- the search begins at the mill
 pub seek_start : (mill : ℕ) (before : Trail) (link : Option Link) (after : Trail) → Reached before mill link after
-    → mill < 64 → link ≡ None → queue_of before ≡ []
+    → link ≡ None → queue_of before ≡ []
     → (meaning : Meaning) (tally : Tally) → Sought meaning tally mill after 0 0
-seek_start mill before link after R low root empty meaning tally =
+seek_start mill before link after R root empty meaning tally =
     let first : queue_of after ≡ mill ∷ [] = R.queue ∙ ap (λ q. q ++ (mill ∷ [])) empty in
     record {
       path = λ _. [];
       searched = subst (λ q. Searched (Backward (shop_in meaning tally) (placement tally)) mill q (λ _. []) 0 0 0) (sym first) (back_start (shop_in meaning tally) (placement tally) mill);
       links = subst (λ q. Links mill q (λ _. []) (ticket_of 0 after) (by_of after)) (sym first) (links_start mill (λ _. []) (ticket_of 0 after) (by_of after));
       root = R.here ∙ root;
-      low = low;
     }
 
 module _ {meaning : Meaning} {tally : Tally} {mill : ℕ} {trail : Trail} {place t : ℕ} (S : Sought meaning tally mill trail place t) where
@@ -63,15 +62,13 @@ module _ {meaning : Meaning} {tally : Tally} {mill : ℕ} {trail : Trail} {place
     searched = back_rest (shop_in meaning tally) (placement tally) mill S.searched (λ k m on. reached_in m (known k m on));
     links = S.links;
     root = S.root;
-    low = S.low;
   }
 
   pub reached_out : (m : ℕ) → has trail.reached m ≡ false → In m (queue_of trail) → ⊥
   reached_out m h = not_from_Decides (member m (queue_of trail)) (is_member m (queue_of trail)) (sym (trail.known m) ∙ h)
 
-  module _ (semi : SemiMatching (shop_in meaning tally) (placement tally)) where
-    pub sought_mills : (m : ℕ) → In m (queue_of trail) → m < 64
-    sought_mills = back_mills (shop_in meaning tally) (placement tally) mill S.searched.found semi S.low
+  pub sought_mills : (m : ℕ) → In m (queue_of trail) → m < 64
+  sought_mills m i = trail.below m (trail.known m ∙ (is_member m (queue_of trail)).1 i)
 
 -- the search stands on a mill
 module _ {meaning : Meaning} {tally : Tally} {mill : ℕ} {trail : Trail} {place towards t : ℕ} (V : Visiting meaning tally mill trail place towards t) where
@@ -93,7 +90,7 @@ module _ {meaning : Meaning} {tally : Tally} {mill : ℕ} {trail : Trail} {place
   -- past the ticket t, with no mill more
   on : Searched (Backward shop at) mill (queue_of trail) S.path place (t + 1) 0 → Visiting meaning tally mill trail place towards (t + 1)
   on searched = record {
-    sought = record { path = S.path; searched = searched; links = S.links; root = S.root; low = S.low };
+    sought = record { path = S.path; searched = searched; links = S.links; root = S.root };
     within = V.within;
     here = V.here;
   }
@@ -120,7 +117,6 @@ module _ {meaning : Meaning} {tally : Tally} {mill : ℕ} {trail : Trail} {place
 
     -- it stands on a new mill
     module _ {after : Trail} (unknown : has trail.reached p.mill ≡ false) (may : mill_for meaning tally.service p.program towards ≡ true) (exists : t < 1024)
-        (semi : SemiMatching shop at)
         (R : Reached trail p.mill (Some (record { ticket = record { 0 = t }; by = record { 0 = towards } })) after) where
       abbrev m : ℕ
       m = p.mill
@@ -136,7 +132,7 @@ module _ {meaning : Meaning} {tally : Tally} {mill : ℕ} {trail : Trail} {place
 
       searched : Searched (Backward shop at) mill (queue_of trail ++ (m ∷ [])) path place (t + 1) 0
       searched =
-          back_new shop at mill S.searched towards under V.here m stands (sought_mills S semi towards towards_in) exists
+          back_new shop at mill S.searched towards under V.here m stands (sought_mills S towards towards_in) exists
           (may_go ∙ may) new
 
       links : Links mill (queue_of trail ++ (m ∷ [])) path (ticket_of 0 after) (by_of after)
@@ -153,7 +149,6 @@ module _ {meaning : Meaning} {tally : Tally} {mill : ℕ} {trail : Trail} {place
           searched = subst (λ q. Searched (Backward shop at) mill q path place (t + 1) 0) (sym R.queue) searched;
           links = subst (λ q. Links mill q path (ticket_of 0 after) (by_of after)) (sym R.queue) links;
           root = R.others mill (λ e. new (subst (λ k. In k (queue_of trail)) e S.searched.found.root.0)) ∙ S.root;
-          low = S.low;
         };
         within = omega (arith, ap length R.queue, length-append (queue_of trail) (m ∷ []), under);
         here = ap (λ q. get_or q place 0) R.queue ∙ get_or_append_left (queue_of trail) (m ∷ []) 0 place under ∙ V.here;
@@ -172,7 +167,6 @@ module _ {meaning : Meaning} {tally : Tally} {mill : ℕ} {trail : Trail} {place
         searched = back_node (shop_in meaning tally) (placement tally) mill S.searched towards (under V) V.here end;
         links = S.links;
         root = S.root;
-        low = S.low;
       }
 
 -- a ticket of a table that stands

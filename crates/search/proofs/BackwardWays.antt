@@ -4,7 +4,7 @@ use Rattle.std.proofs.lemmas.Bool.{cases_eq}
 use Rattle.capability.specs.Meaning.{Meaning}
 use Rattle.semimatching.specs.Chains.{Step, Linked, Chain}
 use Rattle.semimatching.specs.Choice.{walk_back}
-use Rattle.semimatching.specs.Placements.{Shop, Placement, SemiMatching}
+use Rattle.semimatching.specs.Placements.{Shop, Placement}
 use Rattle.semimatching.proofs.Carrying.{In, chain_short}
 use Rattle.semimatching.proofs.WalkOrder.{same_step}
 use Rattle.table.specs.Tally.{Place, Tally, mill_for, mill_of, shop_in, placement, seated}
@@ -25,8 +25,7 @@ heads : {r s : Step} {p q : List Step} → ◌≡◌ {A = List Step} (r ∷ p) (
 heads e = (cc, cc)
 
 -- the walk that was found is the way
-module _ {meaning : Meaning} {tally : Tally} {mill : ℕ} {trail : Trail} {place t : ℕ} (S : Sought meaning tally mill trail place t)
-    (semi : SemiMatching (shop_in meaning tally) (placement tally)) where
+module _ {meaning : Meaning} {tally : Tally} {mill : ℕ} {trail : Trail} {place t : ℕ} (S : Sought meaning tally mill trail place t) where
   abbrev shop : Shop
   shop = shop_in meaning tally
 
@@ -55,7 +54,7 @@ module _ {meaning : Meaning} {tally : Tally} {mill : ℕ} {trail : Trail} {place
       let both = heads (e ∙ link.1) in
       let by = way_end s.mill (by_of trail x) ss l.4 both.1 link.0 in
       let within : In s.mill (queue_of trail) = subst (λ k. In k (queue_of trail)) (sym by) link.0 in (
-        link_is (link_of trail x) s.ticket s.mill (sym (ap (λ k. k.ticket) both.0)) (sym by) (sought_mills S semi s.mill within),
+        link_is (link_of trail x) s.ticket s.mill (sym (ap (λ k. k.ticket) both.0)) (sym by) (sought_mills S s.mill within),
         way_back s.mill ss within l.4 (both.1 ∙ ap S.path (sym by)),
       )
 

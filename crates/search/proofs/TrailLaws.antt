@@ -1,6 +1,6 @@
 -- The length of a queue; a trail has room for a mill that it has not reached, and what is always true of it stays so with one mill more.
-use Rattle.std.proofs.Common.{◌≡◌, ℕ, ◌<◌, Bool, true, false, ◌&&◌, ◌||◌, eqb, ltb, List, [], ◌∷◌, ◌++◌, length, get_or, sym, refl, ap, ◌∙◌, arith}
-use Rattle.std.proofs.lemmas.Bool.{lt-ltb}
+use Rattle.std.proofs.Common.{◌≡◌, ℕ, ◌<◌, Bool, true, false, ◌&&◌, ◌||◌, eqb, ltb, List, [], ◌∷◌, ◌++◌, length, get_or, sym, refl, ap, ◌∙◌, ⊎_elim, arith}
+use Rattle.std.proofs.lemmas.Bool.{cases_eq, lt-ltb, ne_eqb}
 use Rattle.std.proofs.lemmas.List.{get_or-map, length-map, length_push}
 use Rattle.sets.specs.Sets.{has, members, member}
 use Rattle.sets.specs.declared.number_set.NumberSet.{NumberSet}
@@ -38,6 +38,13 @@ module _ (old new : NumberSet) (mill : ℕ) (below : mill < 64) (insert : (k : �
   pub known_more : (queue : List ℕ) → ((k : ℕ) → has old k ≡ member k queue) → (k : ℕ) → has new k ≡ member k (queue ++ (mill ∷ []))
   known_more queue known k =
       inserted k ∙ ap (λ b. eqb k mill || b) (known k) ∙ or_swap (eqb k mill) (member k queue) ∙ sym (member-append k queue (mill ∷ []))
+
+  pub below_more : ((k : ℕ) → has old k ≡ true → k < 64) → (k : ℕ) → has new k ≡ true → k < 64
+  below_more low k is =
+      ⊎_elim
+      (λ (e : k ≡ mill). omega arith)
+      (λ (ne : k ≡ mill → ⊥). low k (sym (inserted k ∙ ap (λ b. b || has old k) (ne_eqb k mill ne)) ∙ is))
+      (cases_eq k mill)
 
   pub once_more : {A : Type 0} (queue : List A) (x : A) → has old mill ≡ false → length queue ≡ length (members old) → length (queue ++ (x ∷ [])) ≡ length (members new)
   once_more queue x unknown once = omega (arith, length_push queue x, once, length-numbers-insert (has old) (has new) mill 64 below unknown inserted)

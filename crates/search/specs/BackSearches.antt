@@ -15,7 +15,6 @@ pub record Sought (meaning : Meaning) (tally : Tally) (mill : ℕ) (trail : Trai
   pub searched : Searched (Backward (shop_in meaning tally) (placement tally)) mill (queue_of trail) path place ticket 0
   pub links : Links mill (queue_of trail) path (ticket_of 0 trail) (by_of trail)
   pub root : link_of trail mill ≡ None
-  pub low : mill < 64
 
 -- it stands on the mill `towards`
 pub record Visiting (meaning : Meaning) (tally : Tally) (mill : ℕ) (trail : Trail) (place towards ticket : ℕ) : Type 0 where

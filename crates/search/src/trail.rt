@@ -1,5 +1,5 @@
 //! What a search has reached.
-ghost use Rattle.std.specs.Prelude.{◌≡◌, ℕ, ◌<◌, false, [], ◌∷◌, ◌++◌, map, length, ◌≢◌};
+ghost use Rattle.std.specs.Prelude.{◌≡◌, ℕ, ◌<◌, true, false, [], ◌∷◌, ◌++◌, map, length, ◌≢◌};
 ghost use Rattle.sets.specs.Sets.{has, members, member};
 
 use crate::link::Link;
@@ -14,13 +14,14 @@ pub(crate) const TICKETS: u16 = 1024;
 const MILLS: usize = 64;
 
 /// The mills that a search has reached, in the order in which it reached them and as a set, and how it reached each: no link
-/// where it began. No mill is reached twice.
+/// where it began. No mill is reached twice, and each is below 64.
 #[derive(Drop)]
 pub(crate) struct Trail {
     pub(crate) queue: ArrayVec<Mill, MILLS>,
     pub(crate) reached: NumberSet,
     links: [Option<Link>; MILLS],
     ghost known: { (m : ℕ) → has reached m ≡ member m (map (λ mill. mill.0) queue.items) },
+    ghost below: { (m : ℕ) → has reached m ≡ true → m < 64 },
     ghost once: { length queue.items ≡ length (members reached) },
 }
 

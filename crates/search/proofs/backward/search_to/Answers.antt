@@ -13,7 +13,7 @@ pub loop-next-init : goal.loop-next-init
 loop-next-init c = (
   omega arith,
   seek_start c.args.mill.0 c.empty-trail.result _ c.reach.new.self (record { queue = c.reach.ensures.queue; here = c.reach.ensures.link; others = c.reach.ensures.others })
-      c.requires refl c.empty-trail.ensures (meant c.args.table.now) (tally_of c.args.table.now),
+      refl c.empty-trail.ensures (meant c.args.table.now) (tally_of c.args.table.now),
 )
 
 pub loop-number-preserved : goal.loop-number-preserved

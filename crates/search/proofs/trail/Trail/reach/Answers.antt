@@ -1,6 +1,6 @@
 use Rattle.std.proofs.Common.{rules}
 use Rattle.std.proofs.lemmas.List.{map_push}
-use Rattle.search.proofs.TrailLaws.{room, known_more, once_more}
+use Rattle.search.proofs.TrailLaws.{room, known_more, below_more, once_more}
 use Rattle.search.proofs.trail.Trail.reach.Goals as goal
 
 pub push-requires : goal.push-requires
@@ -13,5 +13,6 @@ invariant_of-self c =
     let old = c.args.self.now.reached in
     record {
       known = rw (c.push.ensures.items) (rw map_push (known_more old c.insert.new.self mill.0 c.requires.mill c.insert.ensures _ c.args.self.now.known));
+      below = below_more old c.insert.new.self mill.0 c.requires.mill c.insert.ensures c.args.self.now.below;
       once = rw c.push.ensures.items (once_more old c.insert.new.self mill.0 c.requires.mill c.insert.ensures queue mill c.requires.new c.args.self.now.once);
     }

@@ -1,6 +1,6 @@
 use Rattle.std.proofs.Common.{sym, ◌∙◌}
 use Rattle.table.specs.Seats.{place_of}
-use Rattle.table.proofs.TableLaws.{semi, stands_few}
+use Rattle.table.proofs.TableLaws.{stands_few}
 use Rattle.search.proofs.BackwardSteps.{seat_low, visit_known, visit_unable, visit_new}
 use Rattle.search.proofs.trail.Trail.visit_back.Goals as goal
 use Rattle.search.proofs.trail.Trail.visit_back.Goals.{else-not-contains-via-then-not-contains+else-contains, else-not-contains-via-else-not-contains}
@@ -12,7 +12,7 @@ pub returns-then-contains : goal.returns-then-contains
 returns-then-contains c mill place V =
     let seat = sym c.in-Some.ensures in
     visit_new V (place_of c.in-Some.seat) seat (sym c.if-not-contains.ensures) (sym (c.mills_for.ensures _) ∙ sym c.if-contains.ensures)
-    (stands_few c.args.table.now _ _ seat) (semi c.args.table.now)
+    (stands_few c.args.table.now _ _ seat)
     (record { queue = c.reach.ensures.queue; here = c.reach.ensures.link; others = c.reach.ensures.others })
 
 pub returns-else-not-contains : goal.returns-else-not-contains
