@@ -14,30 +14,32 @@ use Rattle.semimatching.proofs.Places.{in_place}
 use Rattle.semimatching.proofs.SearchSteps.{looked_at, all_looked}
 use Rattle.table.specs.Tally.{Tally, shop_in, placement}
 use Rattle.search.specs.declared.trail.Trail.{Trail}
-use Rattle.search.specs.BackSearches.{Sought, Way, WayOn, Greatest}
+use Rattle.search.specs.BackSearches.{Sought, Way, WayOn}
+use Rattle.search.specs.Firsts.{Greatest}
+use Rattle.search.proofs.FirstSteps.{greatest_at, greatest_before}
 use Rattle.search.specs.Rules.{carried_out, ShiftedByRule, NothingToShift, EvenIn, Leaning}
 use Rattle.search.specs.Trails.{queue_of}
 use Rattle.search.proofs.BackwardSteps.{sought_mills}
 use Rattle.search.proofs.CarriedOut.{shop_out, chain_out}
 use Rattle.search.proofs.BackwardWays.{way_back}
 
-module _ {meaning : Meaning} {tally : Tally} {mill : ℕ} {trail : Trail} (S : Sought meaning tally mill trail trail.len 0)
+module _ {meaning : Meaning} {tally : Tally} {mill : ℕ} {trail : Trail} (S : Sought meaning tally mill trail (length (queue_of trail)) 0)
     (semi : SemiMatching (shop_in meaning tally) (placement tally))
-    {from : ℕ} (G : Greatest (load (shop_in meaning tally) (placement tally)) (queue_of trail) trail.len from) where
+    {from : ℕ} (G : Greatest (load (shop_in meaning tally) (placement tally)) (queue_of trail) from) where
   abbrev shop : Shop
   shop = shop_in meaning tally
 
   abbrev at : Placement
   at = placement tally
 
-  all : (x : ℕ) (s : Step) → In x (queue_of trail) → Backward shop at x s → looked_at trail.len 0 0 (queue_of trail) x s ≡ true
-  all = all_looked S.searched (omega (arith, S.len))
+  all : (x : ℕ) (s : Step) → In x (queue_of trail) → Backward shop at x s → looked_at (length (queue_of trail)) 0 0 (queue_of trail) x s ≡ true
+  all = all_looked S.searched (omega arith)
 
   greatest : (j : ℕ) → j < length (queue_of trail) → load shop at (get_or (queue_of trail) j 0) ≤ load shop at from
-  greatest j low = G.greatest j (omega (arith, S.len))
+  greatest j low = greatest_at (load shop at) (queue_of trail) from G j low
 
   under : G.place < length (queue_of trail)
-  under = omega (arith, S.len, G.within)
+  under = G.best.0
 
   from_in : In from (queue_of trail)
   from_in = subst (λ k. In k (queue_of trail)) G.is (in_place (queue_of trail) G.place under)
@@ -56,10 +58,10 @@ module _ {meaning : Meaning} {tally : Tally} {mill : ℕ} {trail : Trail} (S : S
   -- a chain improves
   module _ (better : load shop at mill + 2 ≤ load shop at from) where
     chosen : ChosenBack shop at mill (S.path from) from
-    chosen = choose_greatest shop at mill S.searched.found all G.place from under G.is (sought_mills S semi from from_in) better greatest G.earliest
+    chosen = choose_greatest shop at mill S.searched.found all G.place from under G.is (sought_mills S from from_in) better greatest (greatest_before (load shop at) (queue_of trail) from G)
 
     way : Way trail from chosen.steps
-    way = way_back S semi from chosen.steps from_in chosen.shifting.chain.linked chosen.is
+    way = way_back S from chosen.steps from_in chosen.shifting.chain.linked chosen.is
 
     pub chosen_on : WayOn meaning tally trail from
     chosen_on = record { mill = mill; steps = chosen.steps; chain = chosen.shifting.chain; way = way }

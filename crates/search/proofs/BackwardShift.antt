@@ -1,5 +1,5 @@
 -- A shift towards a mill, of a table: it is done, or there is nothing to do.
-use Rattle.std.proofs.Common.{◌≡◌, ℕ, ◌+◌, ◌<◌, ◌≤◌, true, false, List, sym, refl, subst}
+use Rattle.std.proofs.Common.{◌≡◌, ℕ, ◌+◌, ◌<◌, ◌≤◌, true, false, List, length, sym, refl, subst}
 use Rattle.std.proofs.lemmas.Bool.{true≢false, false≢true}
 use Rattle.semimatching.specs.Chains.{Step}
 use Rattle.semimatching.specs.Placements.{load}
@@ -8,14 +8,15 @@ use Rattle.table.specs.Held.{meant, tally_of}
 use Rattle.table.specs.Tally.{shop_in, placement}
 use Rattle.table.proofs.TableLaws.{semi}
 use Rattle.search.specs.declared.trail.Trail.{Trail}
-use Rattle.search.specs.BackSearches.{Sought, Way, WayOn, Greatest}
+use Rattle.search.specs.BackSearches.{Sought, Way, WayOn}
+use Rattle.search.specs.Firsts.{Greatest}
 use Rattle.search.specs.Rules.{carried_out, EvenIn, Leaning}
 use Rattle.search.specs.Shifts.{Shift}
 use Rattle.search.specs.Trails.{queue_of}
 use Rattle.search.proofs.BackwardChoice.{nothing_left, settled, chosen_on, shifted, leaning_on, even_after}
 
-module _ (table : Table) (mill : ℕ) {trail : Trail} (S : Sought (meant table) (tally_of table) mill trail trail.len 0)
-    {from : ℕ} (G : Greatest (load (shop_in (meant table) (tally_of table)) (placement (tally_of table))) (queue_of trail) trail.len from) where
+module _ (table : Table) (mill : ℕ) {trail : Trail} (S : Sought (meant table) (tally_of table) mill trail (length (queue_of trail)) 0)
+    {from : ℕ} (G : Greatest (load (shop_in (meant table) (tally_of table)) (placement (tally_of table))) (queue_of trail) from) where
   abbrev loads : ℕ → ℕ
   loads = load (shop_in (meant table) (tally_of table)) (placement (tally_of table))
 

@@ -1,144 +1,74 @@
 -- The search back from a mill, one ticket and one mill further.
-use Rattle.std.proofs.Common.{◌≡◌, ℕ, ◌+◌, ◌<◌, ◌≤◌, Bool, true, false, ◌||◌, eqb, List, [], ◌∷◌, ◌++◌, length, get_or, take, set, Some, None, sym, refl, ap, ◌∙◌, subst, ⊎_elim, arith}
+use Rattle.std.proofs.Common.{◌≡◌, ℕ, ◌+◌, ◌<◌, ◌≤◌, true, false, List, [], ◌∷◌, ◌++◌, length, get_or, Some, None, Option, sym, ap, ◌∙◌, subst, arith}
 use Rattle.std.specs.Option.{option_map}
-use Rattle.std.proofs.lemmas.List.{length-append, get_or_append_left, get_or-set_same, get_or-set_other, get_or-map, get_or-take, length-set, length-map}
+use Rattle.std.proofs.lemmas.List.{length-append, get_or_append_left}
 use Rattle.std.proofs.lemmas.Bool.{both_ways}
 use Rattle.std.proofs.lemmas.Bool.Decides.{not_from_Decides}
-use Rattle.sets.specs.Sets.{has}
+use Rattle.sets.specs.Sets.{has, member}
 use Rattle.capability.specs.Meaning.{Meaning}
 use Rattle.semimatching.specs.Chains.{Step}
-use Rattle.semimatching.specs.Placements.{Shop, Placement, SemiMatching}
+use Rattle.semimatching.specs.Placements.{Shop, Placement}
 use Rattle.semimatching.specs.Searches.{Backward}
-use Rattle.semimatching.proofs.BackwardSearch.{back_start, back_skip, back_known, back_new, back_node, back_rest, back_mills}
-use Rattle.semimatching.proofs.Carrying.{In, distinct_few}
+use Rattle.semimatching.proofs.BackwardSearch.{back_start, back_skip, back_known, back_new, back_node, back_rest}
+use Rattle.semimatching.proofs.Carrying.{In}
 use Rattle.semimatching.proofs.Links.{Links, links_start, links_new}
-use Rattle.semimatching.proofs.Places.{is_in, is_in_lem, in_place, in_push, distinct_push}
+use Rattle.semimatching.proofs.Places.{in_place}
 use Rattle.semimatching.proofs.Search.{updated, start_first}
 use Rattle.semimatching.proofs.SearchSteps.{Searched}
-use Rattle.semimatching.proofs.Sums.{count_le}
 use Rattle.table.specs.declared.table.Table.{Table}
 use Rattle.table.specs.Held.{tally_of}
 use Rattle.table.specs.Tally.{Place, Tally, mill_for, mill_of, shop_in, placement}
 use Rattle.table.proofs.TableLaws.{semi, stands_few, service_few, placed_served}
 use Rattle.search.specs.declared.link.Link.{Link}
 use Rattle.search.specs.declared.trail.Trail.{Trail}
-use Rattle.search.specs.Trails.{queue_of, node_of, link_of, ticket_of, by_of}
-use Rattle.search.specs.BackSearches.{Sought, Visiting, Room}
-
--- one mill more is in the queue
-is_in_push : (m : ℕ) (xs : List ℕ) (k : ℕ) → is_in m (xs ++ (k ∷ [])) ≡ (eqb m k || is_in m xs)
-is_in_push m [] k = refl
-is_in_push m (x ∷ xs) k = ap (λ b. eqb m x || b) (is_in_push m xs k) ∙ swap (eqb m x) (eqb m k) (is_in m xs)
-  where
-    swap : (a b c : Bool) → (a || (b || c)) ≡ (b || (a || c))
-    swap true true c = refl
-    swap true false c = refl
-    swap false b c = refl
+use Rattle.search.specs.Trails.{queue_of, node_of, link_of, ticket_in, ticket_of, by_of}
+use Rattle.search.proofs.ForwardVisits.{is_member}
+use Rattle.search.specs.BackSearches.{Sought, Visiting}
 
 -- what `reach` does to a trail
-pub record Reached (before : Trail) (mill : ℕ) (link : Link) (after : Trail) : Type 0 where
+pub record Reached (before : Trail) (mill : ℕ) (link : Option Link) (after : Trail) : Type 0 where
   pub queue : queue_of after ≡ queue_of before ++ (mill ∷ [])
-  pub len : after.len ≡ length (queue_of after)
-  pub reached : (m : ℕ) → has after.reached m ≡ (eqb m mill || has before.reached m)
-  pub links : after.links ≡ set before.links mill link
-
-abbrev unlinked : Link
-unlinked = record { ticket = record { 0 = 0 }; by = None }
-
-module _ {before : Trail} {mill : ℕ} {link : Link} {after : Trail} (R : Reached before mill link after) where
-  link_here : mill < length before.links → link_of after mill ≡ link
-  link_here low = ap (λ links. get_or links mill unlinked) R.links ∙ get_or-set_same before.links mill link unlinked low
-
-  link_other : (m : ℕ) → (m ≡ mill → ⊥) → link_of after m ≡ link_of before m
-  link_other m other = ap (λ links. get_or links m unlinked) R.links ∙ get_or-set_other before.links mill m link unlinked other
-
-  links_whole : length before.links ≡ 64 → length after.links ≡ 64
-  links_whole whole = ap length R.links ∙ length-set before.links mill link ∙ whole
-
--- a place of the queue
-pub queue_at : (trail : Trail) (k : ℕ) → trail.len ≡ length (queue_of trail) → k < trail.len → get_or (queue_of trail) k 0 ≡ (get_or trail.queue k (record { 0 = 0 })).0
-queue_at trail k len under =
-    let front = take trail.len trail.queue in
-    get_or-map (λ m. m.0) front k (record { 0 = 0 }) 0 (omega (arith, length-map front (λ m. m.0)))
-    ∙ ap (λ m. m.0) (get_or-take trail.len trail.queue k (record { 0 = 0 }) under)
+  pub here : link_of after mill ≡ link
+  pub others : (m : ℕ) → (m ≡ mill → ⊥) → link_of after m ≡ link_of before m
 
 -- the search begins at the mill
-pub seek_start : (mill : ℕ) (before : Trail) (link : Link) (after : Trail) → Reached before mill link after
-    → mill < 64 → length before.links ≡ 64 → link.by ≡ None → queue_of before ≡ [] → ((m : ℕ) → has before.reached m ≡ false)
+pub seek_start : (mill : ℕ) (before : Trail) (link : Option Link) (after : Trail) → Reached before mill link after
+    → link ≡ None → queue_of before ≡ []
     → (meaning : Meaning) (tally : Tally) → Sought meaning tally mill after 0 0
-seek_start mill before link after R low whole root empty none meaning tally =
+seek_start mill before link after R root empty meaning tally =
     let first : queue_of after ≡ mill ∷ [] = R.queue ∙ ap (λ q. q ++ (mill ∷ [])) empty in
     record {
       path = λ _. [];
       searched = subst (λ q. Searched (Backward (shop_in meaning tally) (placement tally)) mill q (λ _. []) 0 0 0) (sym first) (back_start (shop_in meaning tally) (placement tally) mill);
-      links = subst (λ q. Links mill q (λ _. []) (ticket_of after) (by_of after)) (sym first) (links_start mill (λ _. []) (ticket_of after) (by_of after));
-      root = ap (λ l. l.by) (link_here R (omega arith)) ∙ root;
-      reached = λ m. R.reached m ∙ ap (λ b. eqb m mill || b) (none m) ∙ ap (is_in m) (sym first);
-      len = R.len;
-      whole = links_whole R whole;
-      low = low;
+      links = subst (λ q. Links mill q (λ _. []) (ticket_of 0 after) (by_of after)) (sym first) (links_start mill (λ _. []) (ticket_of 0 after) (by_of after));
+      root = R.here ∙ root;
     }
 
 module _ {meaning : Meaning} {tally : Tally} {mill : ℕ} {trail : Trail} {place t : ℕ} (S : Sought meaning tally mill trail place t) where
-  -- the mill is the first of the queue
-  pub sought_first : get_or (queue_of trail) 0 0 ≡ mill
-  sought_first = (start_first S.searched.found).1
-
-  pub sought_some : 0 < trail.len
-  sought_some = omega (arith, S.len, (start_first S.searched.found).0)
-
-  pub sought_from : (m : ℕ) → mill ≡ m → Sought meaning tally m trail place t
-  sought_from m e = subst (λ k. Sought meaning tally k trail place t) e S
+  pub sought_some : 0 < length (queue_of trail)
+  sought_some = (start_first S.searched.found).0
 
   -- the search has come to the end of the queue
-  pub sought_done : place ≤ trail.len → trail.len ≤ place → Sought meaning tally mill trail trail.len t
+  pub sought_done : place ≤ length (queue_of trail) → length (queue_of trail) ≤ place → Sought meaning tally mill trail (length (queue_of trail)) t
   sought_done low high = subst (λ k. Sought meaning tally mill trail k t) (omega arith) S
 
   pub reached_in : (m : ℕ) → has trail.reached m ≡ true → In m (queue_of trail)
-  reached_in m h = (is_in_lem m (queue_of trail)).0 (sym (S.reached m) ∙ h)
+  reached_in m h = (is_member m (queue_of trail)).0 (sym (trail.known m) ∙ h)
 
   -- the rest of the queue adds nothing: every ticket stands on a mill that is reached
-  pub sought_rest : ((k m : ℕ) → placement tally k ≡ Some m → has trail.reached m ≡ true) → Sought meaning tally mill trail trail.len 0
+  pub sought_rest : ((k m : ℕ) → placement tally k ≡ Some m → has trail.reached m ≡ true) → Sought meaning tally mill trail (length (queue_of trail)) 0
   sought_rest known = record {
     path = S.path;
-    searched = subst (λ k. Searched (Backward (shop_in meaning tally) (placement tally)) mill (queue_of trail) S.path k 0 0) (sym S.len)
-        (back_rest (shop_in meaning tally) (placement tally) mill S.searched (λ k m on. reached_in m (known k m on)));
+    searched = back_rest (shop_in meaning tally) (placement tally) mill S.searched (λ k m on. reached_in m (known k m on));
     links = S.links;
     root = S.root;
-    reached = S.reached;
-    len = S.len;
-    whole = S.whole;
-    low = S.low;
   }
 
   pub reached_out : (m : ℕ) → has trail.reached m ≡ false → In m (queue_of trail) → ⊥
-  reached_out m h = not_from_Decides (is_in m (queue_of trail)) (is_in_lem m (queue_of trail)) (sym (S.reached m) ∙ h)
+  reached_out m h = not_from_Decides (member m (queue_of trail)) (is_member m (queue_of trail)) (sym (trail.known m) ∙ h)
 
-  module _ (semi : SemiMatching (shop_in meaning tally) (placement tally)) where
-    pub sought_mills : (m : ℕ) → In m (queue_of trail) → m < 64
-    sought_mills = back_mills (shop_in meaning tally) (placement tally) mill S.searched.found semi S.low
-
-    -- no more mills are reached than there are
-    pub sought_few : trail.len ≤ 64
-    sought_few =
-        omega (
-          arith,
-          S.len,
-          distinct_few 64 (queue_of trail) (λ _. true) S.searched.found.once (λ m i. (sought_mills m i, refl)),
-          count_le 64 (λ _. true),
-        )
-
-    -- and while there is one that is not reached, fewer
-    pub sought_room : Room trail
-    sought_room m low h =
-        omega (
-          arith,
-          S.len,
-          length-append (queue_of trail) (m ∷ []),
-          distinct_few 64 (queue_of trail ++ (m ∷ [])) (λ _. true) (distinct_push (queue_of trail) m S.searched.found.once (reached_out m h))
-              (λ k i. (⊎_elim (λ (j : In k (queue_of trail)). sought_mills k j) (λ (e : k ≡ m). omega arith) (in_push k (queue_of trail) m i), refl)),
-          count_le 64 (λ _. true),
-        )
+  pub sought_mills : (m : ℕ) → In m (queue_of trail) → m < 64
+  sought_mills m i = trail.below m (trail.known m ∙ (is_member m (queue_of trail)).1 i)
 
 -- the search stands on a mill
 module _ {meaning : Meaning} {tally : Tally} {mill : ℕ} {trail : Trail} {place towards t : ℕ} (V : Visiting meaning tally mill trail place towards t) where
@@ -152,7 +82,7 @@ module _ {meaning : Meaning} {tally : Tally} {mill : ℕ} {trail : Trail} {place
   S = V.sought
 
   under : place < length (queue_of trail)
-  under = omega (arith, S.len, V.within)
+  under = V.within
 
   pub towards_in : In towards (queue_of trail)
   towards_in = subst (λ k. In k (queue_of trail)) V.here (in_place (queue_of trail) place under)
@@ -160,14 +90,14 @@ module _ {meaning : Meaning} {tally : Tally} {mill : ℕ} {trail : Trail} {place
   -- past the ticket t, with no mill more
   on : Searched (Backward shop at) mill (queue_of trail) S.path place (t + 1) 0 → Visiting meaning tally mill trail place towards (t + 1)
   on searched = record {
-    sought = record { path = S.path; searched = searched; links = S.links; root = S.root; reached = S.reached; len = S.len; whole = S.whole; low = S.low };
+    sought = record { path = S.path; searched = searched; links = S.links; root = S.root };
     within = V.within;
     here = V.here;
   }
 
   -- the ticket does not stand
   pub visit_none : tally.seat t ≡ None → Visiting meaning tally mill trail place towards (t + 1)
-  visit_none away = on (back_skip shop at mill S.searched towards under V.here (λ m stands may. let z : ◌≡◌ {A = ℕ} 0 1 = cc in omega arith))
+  visit_none away = on (back_skip shop at mill S.searched towards under V.here (λ m stands may. cc))
 
   module _ (p : Place) (seat : tally.seat t ≡ Some p) where
     stands : at t ≡ Some p.mill
@@ -187,8 +117,7 @@ module _ {meaning : Meaning} {tally : Tally} {mill : ℕ} {trail : Trail} {place
 
     -- it stands on a new mill
     module _ {after : Trail} (unknown : has trail.reached p.mill ≡ false) (may : mill_for meaning tally.service p.program towards ≡ true) (exists : t < 1024)
-        (semi : SemiMatching shop at)
-        (R : Reached trail p.mill (record { ticket = record { 0 = t }; by = Some (record { 0 = towards }) }) after) where
+        (R : Reached trail p.mill (Some (record { ticket = record { 0 = t }; by = record { 0 = towards } })) after) where
       abbrev m : ℕ
       m = p.mill
 
@@ -198,19 +127,19 @@ module _ {meaning : Meaning} {tally : Tally} {mill : ℕ} {trail : Trail} {place
       new : In m (queue_of trail) → ⊥
       new = reached_out S m unknown
 
-      there : link_of after m ≡ record { ticket = record { 0 = t }; by = Some (record { 0 = towards }) }
-      there = link_here R (omega (arith, S.whole, semi t m exists stands))
+      there : link_of after m ≡ Some (record { ticket = record { 0 = t }; by = record { 0 = towards } })
+      there = R.here
 
       searched : Searched (Backward shop at) mill (queue_of trail ++ (m ∷ [])) path place (t + 1) 0
       searched =
-          back_new shop at mill S.searched towards under V.here m stands (sought_mills S semi towards towards_in) exists
+          back_new shop at mill S.searched towards under V.here m stands (sought_mills S towards towards_in) exists
           (may_go ∙ may) new
 
-      links : Links mill (queue_of trail ++ (m ∷ [])) path (ticket_of after) (by_of after)
+      links : Links mill (queue_of trail ++ (m ∷ [])) path (ticket_of 0 after) (by_of after)
       links =
-          links_new mill (queue_of trail) S.path (ticket_of trail) (by_of trail) (ticket_of after) (by_of after) m t towards towards_in new
-          (ap (λ l. l.ticket.0) there) (ap (λ l. node_of l.by) there)
-          (λ y other. (ap (λ l. l.ticket.0) (link_other R y other), ap (λ l. node_of l.by) (link_other R y other)))
+          links_new mill (queue_of trail) S.path (ticket_of 0 trail) (by_of trail) (ticket_of 0 after) (by_of after) m t towards towards_in new
+          (ap (ticket_in 0) there) (ap node_of there)
+          (λ y other. (ap (ticket_in 0) (R.others y other), ap node_of (R.others y other)))
           S.links
 
       pub visit_new : Visiting meaning tally mill after place towards (t + 1)
@@ -218,20 +147,16 @@ module _ {meaning : Meaning} {tally : Tally} {mill : ℕ} {trail : Trail} {place
         sought = record {
           path = path;
           searched = subst (λ q. Searched (Backward shop at) mill q path place (t + 1) 0) (sym R.queue) searched;
-          links = subst (λ q. Links mill q path (ticket_of after) (by_of after)) (sym R.queue) links;
-          root = ap (λ l. l.by) (link_other R mill (λ e. new (subst (λ k. In k (queue_of trail)) e S.searched.found.root.0))) ∙ S.root;
-          reached = λ k. R.reached k ∙ ap (λ b. eqb k m || b) (S.reached k) ∙ sym (is_in_push k (queue_of trail) m) ∙ ap (is_in k) (sym R.queue);
-          len = R.len;
-          whole = links_whole R S.whole;
-          low = S.low;
+          links = subst (λ q. Links mill q path (ticket_of 0 after) (by_of after)) (sym R.queue) links;
+          root = R.others mill (λ e. new (subst (λ k. In k (queue_of trail)) e S.searched.found.root.0)) ∙ S.root;
         };
-        within = omega (arith, R.len, ap length R.queue, length-append (queue_of trail) (m ∷ []), under);
+        within = omega (arith, ap length R.queue, length-append (queue_of trail) (m ∷ []), under);
         here = ap (λ q. get_or q place 0) R.queue ∙ get_or_append_left (queue_of trail) (m ∷ []) 0 place under ∙ V.here;
       }
 
 -- the search comes to the next mill of the queue, and is past its last ticket
 module _ {meaning : Meaning} {tally : Tally} {mill : ℕ} {trail : Trail} {place towards : ℕ} where
-  pub visit_first : Sought meaning tally mill trail place 0 → place < trail.len → get_or (queue_of trail) place 0 ≡ towards → Visiting meaning tally mill trail place towards 0
+  pub visit_first : Sought meaning tally mill trail place 0 → place < length (queue_of trail) → get_or (queue_of trail) place 0 ≡ towards → Visiting meaning tally mill trail place towards 0
   visit_first S under is = record { sought = S; within = under; here = is }
 
   pub visit_last : (t : ℕ) → 1024 ≤ t → Visiting meaning tally mill trail place towards t → Sought meaning tally mill trail (place + 1) 0
@@ -242,10 +167,6 @@ module _ {meaning : Meaning} {tally : Tally} {mill : ℕ} {trail : Trail} {place
         searched = back_node (shop_in meaning tally) (placement tally) mill S.searched towards (under V) V.here end;
         links = S.links;
         root = S.root;
-        reached = S.reached;
-        len = S.len;
-        whole = S.whole;
-        low = S.low;
       }
 
 -- a ticket of a table that stands

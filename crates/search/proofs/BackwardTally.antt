@@ -1,5 +1,5 @@
 -- A tally in which tickets go to other mills: where they stand, and that their programs stay.
-use Rattle.std.proofs.Common.{◌≡◌, ℕ, List, [], ◌∷◌, Some, None, Option, sym, refl, ap, ◌∙◌, subst, inl, inr, arith}
+use Rattle.std.proofs.Common.{◌≡◌, ℕ, List, [], ◌∷◌, Some, None, Option, sym, refl, ap, ◌∙◌, subst, inl, inr}
 use Rattle.std.specs.Option.{option_map}
 use Rattle.semimatching.specs.Placements.{Shop}
 use Rattle.semimatching.specs.Chains.{Step, Chain, moved}
@@ -26,5 +26,5 @@ pub standing_place : (tally : Tally) (t v : ℕ) → placement tally t ≡ Some 
 standing_place tally t v stands = one (tally.seat t) refl stands
   where
     one : (o : Option Place) → tally.seat t ≡ o → option_map (λ place. place.mill) o ≡ Some v → (place : Place) × (tally.seat t ≡ Some place)
-    one None e stands = let z : ◌≡◌ {A = ℕ} 0 1 = cc in absurd (omega arith)
+    one None e stands = absurd (cc)
     one (Some place) e stands = (place, e)

@@ -156,7 +156,7 @@ pub linked_others : (shop : Shop) (at : Placement) (v : ℕ) (steps : List Step)
 linked_others shop at v steps w l n away = not_in n (tickets steps) (λ i. none (linked_stands shop at v steps w l n i).1)
   where
     none : {m : ℕ} → at n ≡ Some m → ⊥
-    none stands = let z : ◌≡◌ {A = ℕ} 0 1 = cc in omega arith
+    none stands = cc
 
 pub some_seat : (seat : Option Place) (m : ℕ) → option_map (λ place. place.mill) seat ≡ Some m → is_some seat ≡ true
 some_seat None m on = absurd (grind arith)

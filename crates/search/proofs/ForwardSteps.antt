@@ -9,7 +9,9 @@ use Rattle.semimatching.proofs.Search.{Found}
 use Rattle.semimatching.proofs.SearchSteps.{Searched, mill-none, mill_known, mill_new, mill_first, node_in}
 use Rattle.semimatching.proofs.Links.{Links, links_start, links_new}
 use Rattle.semimatching.proofs.ForwardSearch.{Chosen, forward_start, choose_stopped, stopped_potential, queue_mills}
-use Rattle.search.specs.Routes.{Lightest, Leads, Route, Explored}
+use Rattle.search.specs.Firsts.{Lightest}
+use Rattle.search.specs.Routes.{Leads, Route, Explored}
+use Rattle.search.proofs.FirstSteps.{lightest_at}
 
 -- the node that a link comes from: a mill, or the start where there is none
 abbrev pub node_at : ℕ → Option ℕ → ℕ
@@ -80,10 +82,10 @@ module _ (shop : Shop) (at : Placement) (n : ℕ) {queue : List ℕ} {path : ℕ
 
 -- the lightest mill of a queue is in it, and no other is lighter
 pub lightest_in : (load : ℕ → ℕ) (queue : List ℕ) (w : ℕ) → Lightest load queue w → In w queue
-lightest_in load queue w l = subst (λ x. In x queue) l.is (in_place queue l.place l.within)
+lightest_in load queue w l = subst (λ x. In x queue) l.is (in_place queue l.place l.best.0)
 
 pub lightest_least : (load : ℕ → ℕ) (queue : List ℕ) (w : ℕ) → Lightest load queue w → (z : ℕ) → In z queue → load w ≤ load z
-lightest_least load queue w l z i = subst (λ x. load w ≤ load x) (place_index z queue i) (l.least (index_in z queue) (index_below z queue i))
+lightest_least load queue w l z i = subst (λ x. load w ≤ load x) (place_index z queue i) (lightest_at load queue w l (index_in z queue) (index_below z queue i))
 
 -- one mill further, at the node v in place h
 module _ (shop : Shop) (at : Placement) (n : ℕ) {queue : List ℕ} {ticket : ℕ → ℕ} {from : ℕ → Option ℕ} {h t b : ℕ} (G : Going shop at n queue ticket from h t b)

@@ -14,7 +14,9 @@ use Rattle.semimatching.proofs.Search.{Found}
 use Rattle.semimatching.proofs.SearchSteps.{all_looked}
 use Rattle.semimatching.proofs.Links.{Links}
 use Rattle.semimatching.proofs.ForwardSearch.{Chosen, choose_complete, complete_potential, entry_end, forward_ticket, forward_skip, forward_node}
-use Rattle.search.specs.Routes.{Lightest, Leads, Route, Explored}
+use Rattle.search.specs.Firsts.{Lightest}
+use Rattle.search.specs.Routes.{Leads, Route, Explored}
+use Rattle.search.proofs.FirstSteps.{lightest_at, lightest_before}
 use Rattle.search.proofs.ForwardSteps.{Going, going_none, going_known, going_new, going_stop, lightest_in, node_at, found_below, leads}
 
 pub is_member : (x : ℕ) (xs : List ℕ) → Decides (member x xs) (In x xs)
@@ -162,14 +164,14 @@ module _ (shop : Shop) (at : Placement) (n : ℕ) {queue : List ℕ} {path : ℕ
   module _ (w : ℕ) (light : Lightest (load shop at) queue w) (mill : w < shop.mills) where
     least : (j : ℕ) → j < length (shop.mills ∷ queue) → get_or (shop.mills ∷ queue) j 0 < shop.mills → load shop at w ≤ load shop at (get_or (shop.mills ∷ queue) j 0)
     least zero l below = absurd (omega arith)
-    least (suc j) l below = light.least j (omega arith)
+    least (suc j) l below = lightest_at (load shop at) queue w light j (omega arith)
 
     earliest : (j : ℕ) → j < suc light.place → get_or (shop.mills ∷ queue) j 0 < shop.mills → load shop at w < load shop at (get_or (shop.mills ∷ queue) j 0)
     earliest zero l below = absurd (omega arith)
-    earliest (suc j) l below = light.earliest j (omega arith)
+    earliest (suc j) l below = lightest_before (load shop at) queue w light j (omega arith)
 
     chosen : Chosen shop at n (path w) w
-    chosen = choose_complete shop at n F all (suc light.place) w (omega (arith, light.within)) light.is mill least earliest
+    chosen = choose_complete shop at n F all (suc light.place) w (omega (arith, light.best.0)) light.is mill least earliest
 
     end_route : Route shop at n ticket from w
     end_route = record {

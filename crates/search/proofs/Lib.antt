@@ -3,12 +3,11 @@ pub mod ForwardSteps
 pub mod ForwardVisits
 pub mod VisitSteps
 pub mod SearchFrom
-pub mod LightestSteps
+pub mod FirstSteps
 pub mod CarriedOut
 pub mod PlaceSteps
 pub mod PlacedEven
 pub mod BackwardTally
-pub mod BackwardGreatest
 pub mod BackwardSteps
 pub mod BackwardWays
 pub mod BackwardChoice

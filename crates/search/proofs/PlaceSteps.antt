@@ -6,7 +6,6 @@ use Rattle.std.specs.List.{AllByRecursion as All}
 use Rattle.std.proofs.ByRecursion.{All-push}
 use Rattle.std.proofs.lemmas.List.{append_assoc, length-append, length-reverse, same_from_push}
 use Rattle.std.proofs.lemmas.Bool.{cond-true, cond-false, eq-eqb, ne_eqb, false≢true}
-use Rattle.vocabulary.specs.declared.numbers.Mill.{Mill}
 use Rattle.capability.specs.Meaning.{Meaning}
 use Rattle.semimatching.specs.Chains.{Step, Linked, Chain}
 use Rattle.semimatching.specs.Choice.{walk_from, Placing}
@@ -17,7 +16,7 @@ use Rattle.search.specs.declared.link.Link.{Link}
 use Rattle.search.specs.declared.trail.Trail.{Trail}
 use Rattle.search.specs.Routes.{Leads, Route}
 use Rattle.search.specs.Rules.{shop_for, relocated, carried_out, PlacedByRule}
-use Rattle.search.specs.Trails.{link_of, from_of}
+use Rattle.search.specs.Trails.{link_of, ticket_in, ticket_of, from_of}
 use Rattle.search.proofs.CarriedOut.{seated-relocated, out_push, out_reverse, out_seated, out_service, out_can, out_none, linked_tickets, linked_others}
 
 -- ---- the shop with a ticket that is to be placed
@@ -35,7 +34,7 @@ module _ (meaning : Meaning) (tally : Tally) (n program : ℕ) where
 
     -- who stands is another ticket
     pub stands_other : (t m : ℕ) → placement tally t ≡ Some m → t ≡ n → ⊥
-    stands_other t m stands e = let none = not_placed in let z : ◌≡◌ {A = ℕ} 0 1 = cc in omega arith
+    stands_other t m stands e = let none = not_placed in cc
 
     pub semi_for : SemiMatching (shop_in meaning tally) (placement tally) → SemiMatching (shop_for meaning tally n program) (placement tally)
     semi_for semi t m exists stands = let was = semi t m exists stands in (was.0, for_other t m (stands_other t m stands) ∙ was.1)
@@ -126,7 +125,13 @@ pub record Following (meaning : Meaning) (before : Tally) (n program : ℕ) (tic
   pub leads : Leads 64 ticket from rest to
   pub is : tally ≡ carried_out before done
 
-module _ (meaning : Meaning) (before : Tally) (n program : ℕ) (ticket : ℕ → ℕ) (from : ℕ → Option ℕ) where
+module _ (meaning : Meaning) (before : Tally) (n program : ℕ) (trail : Trail) where
+  abbrev ticket : ℕ → ℕ
+  ticket = ticket_of n trail
+
+  abbrev from : ℕ → Option ℕ
+  from = from_of trail
+
   pub follow_start : (to : ℕ) → Route (shop_for meaning before n program) (placement before) n ticket from to → Following meaning before n program ticket from before to
   follow_start to route = record { end = to; route = route; done = []; rest = _; whole = refl; leads = route.links; is = refl }
 
@@ -151,12 +156,18 @@ module _ (meaning : Meaning) (before : Tally) (n program : ℕ) (ticket : ℕ �
         )
 
     -- the next link leads to another mill
-    module _ (away : before.seat n ≡ None) (v : ℕ) (on : from to ≡ Some v) where
+    module _ (away : before.seat n ≡ None) (link : Link) (on : link_of trail to ≡ Some link) where
+      abbrev v : ℕ
+      v = link.by.0
+
+      same : link.ticket.0 ≡ ticket to
+      same = ap (ticket_in n) (sym on)
+
       abbrev here : Step
       here = record { ticket = ticket to; mill = to }
 
       next : Onward 64 ticket from F.rest to v
-      next = leads_on 64 ticket from F.rest to v on F.leads
+      next = leads_on 64 ticket from F.rest to v (ap (option_map (λ l. l.by.0)) on) F.leads
 
       -- its ticket is not the new one
       inner : (ending : (init : List Step) × (last : Step) × (next.after ∷ next.left ≡ init ++ (last ∷ []))) → F.done ++ (here ∷ ending.0) ≡ reverse F.route.steps
@@ -178,23 +189,22 @@ module _ (meaning : Meaning) (before : Tally) (n program : ℕ) (ticket : ℕ �
           may_place meaning tally.service (tally.seat (ticket to)) to
           (subst (λ k. (shop_in meaning k).can (ticket to) to ≡ true) (sym F.is) (out_can meaning before F.done (ticket to) to ∙ may))
 
-      module _ (moving : ℕ) (same : moving ≡ ticket to) where
-        -- what `shift` asks for
-        pub follow_may : (meant : Meaning) → meant ≡ meaning → (place : Place) × (tally.seat moving ≡ Some place) × (mill_for meant tally.service place.program to ≡ true)
-        follow_may meant e = (stands.0, ap tally.seat same ∙ stands.1, ap (λ m. mill_for m tally.service stands.0.program to) e ∙ stands.2)
+      -- what `shift` asks for
+      pub follow_may : (meant : Meaning) → meant ≡ meaning → (place : Place) × (tally.seat link.ticket.0 ≡ Some place) × (mill_for meant tally.service place.program to ≡ true)
+      follow_may meant e = (stands.0, ap tally.seat same ∙ stands.1, ap (λ m. mill_for m tally.service stands.0.program to) e ∙ stands.2)
 
-        pub follow_on : (after : Tally) → ((place : Place) → tally.seat moving ≡ Some place → after ≡ seated tally moving (Some (record { program = place.program; mill = to })))
-            → Following meaning before n program ticket from after v
-        follow_on after shifted = record {
-          end = F.end;
-          route = F.route;
-          done = F.done ++ (here ∷ []);
-          rest = next.after ∷ next.left;
-          whole = append_assoc F.done (here ∷ []) (next.after ∷ next.left) ∙ ap (λ l. F.done ++ l) (sym next.is) ∙ F.whole;
-          leads = next.leads;
-          is = shifted stands.0 (ap tally.seat same ∙ stands.1) ∙ ap (λ k. seated tally k (Some (record { program = stands.0.program; mill = to }))) same
-              ∙ seated-relocated tally here stands.0 stands.1 ∙ ap (λ k. relocated k here) F.is ∙ sym (out_push before F.done here);
-        }
+      pub follow_on : (after : Tally) → ((place : Place) → tally.seat link.ticket.0 ≡ Some place → after ≡ seated tally link.ticket.0 (Some (record { program = place.program; mill = to })))
+          → Following meaning before n program ticket from after v
+      follow_on after shifted = record {
+        end = F.end;
+        route = F.route;
+        done = F.done ++ (here ∷ []);
+        rest = next.after ∷ next.left;
+        whole = append_assoc F.done (here ∷ []) (next.after ∷ next.left) ∙ ap (λ l. F.done ++ l) (sym next.is) ∙ F.whole;
+        leads = next.leads;
+        is = shifted stands.0 (ap tally.seat same ∙ stands.1) ∙ ap (λ k. seated tally k (Some (record { program = stands.0.program; mill = to }))) same
+            ∙ seated-relocated tally here stands.0 stands.1 ∙ ap (λ k. relocated k here) F.is ∙ sym (out_push before F.done here);
+      }
 
       pub follow_less : hops 64 from v < hops 64 from to
       follow_less =
@@ -207,11 +217,11 @@ module _ (meaning : Meaning) (before : Tally) (n program : ℕ) (ticket : ℕ �
           )
 
     -- the next link leads to the new ticket
-    module _ (away : before.seat n ≡ None) (end : from to ≡ None) where
+    module _ (away : before.seat n ≡ None) (root : link_of trail to ≡ None) where
       ending : (F.done ≡ reverse F.route.steps) × (record { ticket = ticket to; mill = to } ≡ first)
       ending =
           same_from_push F.done (reverse F.route.steps) (record { ticket = ticket to; mill = to }) first
-          (ap (λ l. F.done ++ l) (sym (leads_end 64 ticket from F.rest to end F.leads)) ∙ F.whole ∙ reverse-cons first F.route.steps)
+          (ap (λ l. F.done ++ l) (sym (leads_end 64 ticket from F.rest to (ap (option_map (λ l. l.by.0)) root) F.leads)) ∙ F.whole ∙ reverse-cons first F.route.steps)
 
       pub end_first : to ≡ F.route.first
       end_first = ap (λ s. s.mill) ending.1
@@ -243,11 +253,3 @@ module _ (meaning : Meaning) (before : Tally) (n program : ℕ) (ticket : ℕ �
           choice = subst (λ m. Placing (shop_for meaning before n program) (placement before) n m F.route.steps F.end) (sym end_first) F.route.placing;
           result = end_result;
         }
-
--- ---- the links as the code reads them
-
-pub link_on : (trail : Trail) (to : ℕ) (link : Link) (from : Mill) → link ≡ link_of trail to → link.by ≡ Some from → from_of trail to ≡ Some from.0
-link_on trail to link from is by = ap (λ l. option_map (λ m. m.0) l.by) (sym is) ∙ ap (option_map (λ m. m.0)) by
-
-pub link_end : (trail : Trail) (to : ℕ) (link : Link) → link ≡ link_of trail to → link.by ≡ None → from_of trail to ≡ None
-link_end trail to link is by = ap (λ l. option_map (λ m. m.0) l.by) (sym is) ∙ ap (option_map (λ m. m.0)) by

@@ -13,8 +13,10 @@ use Rattle.semimatching.proofs.NoChain.{no_chain_potential}
 use Rattle.semimatching.proofs.Starting.{same_shop}
 use Rattle.table.specs.Tally.{Place, Tally, shop_in, placement, seated}
 use Rattle.table.proofs.TallyLaws.{placement-moved, can_seated}
+use Rattle.search.specs.declared.trail.Trail.{Trail}
 use Rattle.search.specs.Routes.{Route}
 use Rattle.search.specs.Rules.{shop_for, carried_out, EvenIn}
+use Rattle.search.specs.Trails.{link_of, ticket_of, from_of}
 use Rattle.search.proofs.CarriedOut.{out_can, Stand, placement_out, linked_stands}
 use Rattle.search.proofs.PlaceSteps.{for_other, stands_other, Following, end_first, end_result}
 
@@ -62,11 +64,11 @@ module _ (meaning : Meaning) (before : Tally) (n program : ℕ) (ticket : ℕ �
       (subst (λ at. Potential (shop_for meaning before n program) position at NoMill) (sym placed) (R.keeps (start even))))
 
 -- the same at the end of the links
-pub end_even : (meaning : Meaning) (before : Tally) (n program : ℕ) (ticket : ℕ → ℕ) (from : ℕ → Option ℕ) {tally : Tally} {to : ℕ} (F : Following meaning before n program ticket from tally to)
-    (away : before.seat n ≡ None) (end : from to ≡ None) (after : Tally) (put : after ≡ seated tally n (Some (record { program = program; mill = to })))
+pub end_even : (meaning : Meaning) (before : Tally) (n program : ℕ) (trail : Trail) {tally : Tally} {to : ℕ} (F : Following meaning before n program (ticket_of n trail) (from_of trail) tally to)
+    (away : before.seat n ≡ None) (root : link_of trail to ≡ None) (after : Tally) (put : after ≡ seated tally n (Some (record { program = program; mill = to })))
     → SemiMatching (shop_in meaning before) (placement before) → SemiMatching (shop_in meaning after) (placement after) → EvenIn meaning before → EvenIn meaning after
-end_even meaning before n program ticket from {to} F away end after put semi fits even =
-    let is = end_result meaning before n program ticket from F away end after put
-    ∙ ap (λ m. carried_out (seated before n (Some (record { program = program; mill = m }))) F.route.steps) (end_first meaning before n program ticket from F away end) in
+end_even meaning before n program trail {to} F away root after put semi fits even =
+    let is = end_result meaning before n program trail F away root after put
+    ∙ ap (λ m. carried_out (seated before n (Some (record { program = program; mill = m }))) F.route.steps) (end_first meaning before n program trail F away root) in
     subst (EvenIn meaning) (sym is)
-    (route_even meaning before n program ticket from F.end F.route away semi (subst (λ k. SemiMatching (shop_in meaning k) (placement k)) is fits) even)
+    (route_even meaning before n program (ticket_of n trail) (from_of trail) F.end F.route away semi (subst (λ k. SemiMatching (shop_in meaning k) (placement k)) is fits) even)

@@ -1,43 +1,36 @@
 -- The turns of a visit: one new mill more is reached, and either it is empty or the visit goes on.
-use Rattle.std.proofs.Common.{◌≡◌, ℕ, ◌+◌, ◌<◌, Bool, true, false, not, ◌||◌, eqb, ltb, List, [], ◌∷◌, ◌++◌, length, sym, refl, ap, ◌∙◌, subst, ap₂, ⊎_elim, arith}
-use Rattle.std.proofs.lemmas.List.{append-nil, append_assoc, length_push}
+use Rattle.std.proofs.Common.{◌≡◌, ℕ, ◌+◌, ◌<◌, Bool, true, false, not, ◌||◌, ltb, List, [], ◌∷◌, ◌++◌, Option, sym, refl, ap, ◌∙◌, subst, ap₂, ⊎_elim}
+use Rattle.std.proofs.lemmas.List.{append-nil, append_assoc}
 use Rattle.std.proofs.lemmas.Bool.{cases_eq, and_parts, and_from, not-true, both_ways, lt-ltb}
 use Rattle.sets.specs.Sets.{has, members, member, numbers, remaining}
 use Rattle.sets.specs.declared.number_set.Members.{Members}
 use Rattle.sets.specs.declared.number_set.NumberSet.{NumberSet}
 use Rattle.sets.proofs.Members.{members_end, turn_has, turn_so_far}
-use Rattle.sets.proofs.Rising.{numbers_same, length-numbers_le, length-numbers-insert, member-append, member-numbers}
+use Rattle.sets.proofs.Rising.{numbers_same, member-append, member-numbers}
 use Rattle.semimatching.proofs.Carrying.{In}
 use Rattle.semimatching.proofs.Places.{in_push}
 use Rattle.search.specs.declared.link.Link.{Link}
 use Rattle.search.specs.declared.trail.Trail.{Trail}
 use Rattle.search.specs.Trails.{queue_of, link_of}
-use Rattle.search.specs.Visits.{Sound, fresh, Busy, Visited, Stopped}
+use Rattle.search.specs.Visits.{fresh, Busy, Visited, Stopped}
 use Rattle.search.proofs.ForwardVisits.{is_member, numbers-below, numbers_with}
 
 -- the mills xs were reached by one link
-pub record Reached (link : Link) (before after : Trail) (xs : List ℕ) : Type 0 where
-  pub sound : Sound after
+pub record Reached (link : Option Link) (before after : Trail) (xs : List ℕ) : Type 0 where
   pub queue : queue_of after ≡ queue_of before ++ xs
   pub linked : (m : ℕ) → In m xs → link_of after m ≡ link
   pub kept : (m : ℕ) → has before.reached m ≡ true → link_of after m ≡ link_of before m
 
-pub reached_none : (link : Link) (trail : Trail) → Sound trail → Reached link trail trail []
-reached_none link trail sound = record { sound = sound; queue = sym (append-nil (queue_of trail)); linked = λ m i. absurd i; kept = λ m r. refl }
-
-or_swap : (a b : Bool) → (a || b) ≡ (b || (a || false))
-or_swap true true = refl
-or_swap true false = refl
-or_swap false true = refl
-or_swap false false = refl
+pub reached_none : (link : Option Link) (trail : Trail) → Reached link trail trail []
+reached_none link trail = record { queue = sym (append-nil (queue_of trail)); linked = λ m i. absurd i; kept = λ m r. refl }
 
 -- one mill more, which was not reached
-module _ (link : Link) (before here : Trail) (xs : List ℕ) (R : Reached link before here xs) (mill : ℕ) (below : mill < 64)
-    (new : has before.reached mill ≡ false) (later : In mill xs → ⊥) (before_sound : Sound before) where
-  not_reached : has here.reached mill ≡ false
+module _ (link : Option Link) (before here : Trail) (xs : List ℕ) (R : Reached link before here xs) (mill : ℕ) (below : mill < 64)
+    (new : has before.reached mill ≡ false) (later : In mill xs → ⊥) where
+  pub not_reached : has here.reached mill ≡ false
   not_reached =
-      not_in_both (member mill (queue_of before)) (member mill xs) (sym (before_sound.reached mill) ∙ new) (out (member mill xs) (is_member mill xs).0)
-      (R.sound.reached mill ∙ ap (member mill) R.queue ∙ member-append mill (queue_of before) xs)
+      not_in_both (member mill (queue_of before)) (member mill xs) (sym (before.known mill) ∙ new) (out (member mill xs) (is_member mill xs).0)
+      (here.known mill ∙ ap (member mill) R.queue ∙ member-append mill (queue_of before) xs)
     where
       out : (b : Bool) → (b ≡ true → In mill xs) → b ≡ false
       out true is = absurd (later (is refl))
@@ -46,36 +39,10 @@ module _ (link : Link) (before here : Trail) (xs : List ℕ) (R : Reached link b
       not_in_both : (a b : Bool) {c : Bool} → a ≡ false → b ≡ false → c ≡ (a || b) → c ≡ false
       not_in_both a b p q e = e ∙ ap₂ ◌||◌ p q
 
-  reach_room : here.len < 64
-  reach_room =
-      let more : ℕ → Bool = λ k. eqb k mill || has here.reached k in
-      omega (
-        arith,
-        R.sound.counted,
-        length-numbers-insert (has here.reached) more mill 64 below not_reached (λ k. refl),
-        length-numbers_le more 64,
-      )
-
-  module _ (after : Trail) (queue : queue_of after ≡ queue_of here ++ (mill ∷ [])) (len : after.len ≡ length (queue_of after))
-      (reached : (m : ℕ) → has after.reached m ≡ (eqb m mill || has here.reached m)) (linked : link_of after mill ≡ link)
+  module _ (after : Trail) (queue : queue_of after ≡ queue_of here ++ (mill ∷ [])) (linked : link_of after mill ≡ link)
       (others : (m : ℕ) → (m ≡ mill → ⊥) → link_of after m ≡ link_of here m) where
     reach_more : Reached link before after (xs ++ (mill ∷ []))
     reach_more = record {
-      sound = record {
-        long = len;
-        counted = omega (
-          arith,
-          R.sound.long,
-          R.sound.counted,
-          len,
-          ap length queue,
-          length_push (queue_of here) mill,
-          length-numbers-insert (has here.reached) (has after.reached) mill 64 below not_reached reached,
-        );
-        reached = λ m.
-            reached m ∙ ap (λ b. eqb m mill || b) (R.sound.reached m) ∙ or_swap (eqb m mill) (member m (queue_of here))
-            ∙ sym (ap (member m) queue ∙ member-append m (queue_of here) (mill ∷ []));
-      };
       queue = queue ∙ ap (λ q. q ++ (mill ∷ [])) R.queue ∙ append_assoc (queue_of before) xs (mill ∷ []);
       linked = λ m i.
           ⊎_elim
@@ -88,9 +55,8 @@ module _ (link : Link) (before here : Trail) (xs : List ℕ) (R : Reached link b
 -- ---- a visit to the mills of a set
 
 -- what was reached is all that is new below a bound
-visited : (link : Link) (before after : Trail) (new : ℕ → Bool) (bound : ℕ) (xs : List ℕ) → xs ≡ numbers new bound → Reached link before after xs → Visited new link bound before after
+visited : (link : Option Link) (before after : Trail) (new : ℕ → Bool) (bound : ℕ) (xs : List ℕ) → xs ≡ numbers new bound → Reached link before after xs → Visited new link bound before after
 visited link before after new bound xs is R = record {
-  sound = R.sound;
   queue = R.queue ∙ ap (λ l. queue_of before ++ l) is;
   linked = λ m low y. R.linked m ((is_member m xs).0 (ap (member m) is ∙ member-numbers new m bound ∙ and_from (ltb m bound) (new m) (lt-ltb m bound low) y));
   kept = R.kept;
@@ -131,16 +97,15 @@ module _ (mills : NumberSet) (before : Trail) {xs : List ℕ} {mill : ℕ} (T : 
   turn_later : In mill xs → ⊥
   turn_later i = numbers-below (fresh mills before) mill (subst (In mill) turn_come i)
 
-  module _ (sound : Sound before) (link : Link) (trail : Trail) (R : Reached link before trail xs) where
-    pub turn_room : trail.len < 64
-    turn_room = reach_room link before trail xs R mill turn_below turn_new turn_later sound
+  module _ (link : Option Link) (trail : Trail) (R : Reached link before trail xs) where
+    pub turn_unreached : has trail.reached mill ≡ false
+    turn_unreached = not_reached link before trail xs R mill turn_below turn_new turn_later
 
-    pub turn_more : (after : Trail) → queue_of after ≡ queue_of trail ++ (mill ∷ []) → after.len ≡ length (queue_of after)
-        → ((m : ℕ) → has after.reached m ≡ (eqb m mill || has trail.reached m)) → link_of after mill ≡ link
+    pub turn_more : (after : Trail) → queue_of after ≡ queue_of trail ++ (mill ∷ []) → link_of after mill ≡ link
         → ((m : ℕ) → (m ≡ mill → ⊥) → link_of after m ≡ link_of trail m) → Reached link before after (xs ++ (mill ∷ []))
-    turn_more = reach_more link before trail xs R mill turn_below turn_new turn_later sound
+    turn_more = reach_more link before trail xs R mill turn_below turn_new turn_later
 
-  pub turn_stopped : (load : ℕ → ℕ) (link : Link) (after : Trail) → Reached link before after (xs ++ (mill ∷ [])) → Laden load xs → load mill ≡ 0
+  pub turn_stopped : (load : ℕ → ℕ) (link : Option Link) (after : Trail) → Reached link before after (xs ++ (mill ∷ [])) → Laden load xs → load mill ≡ 0
       → Stopped load (fresh mills before) link before after
   turn_stopped load link after R laden empty = record {
     mill = mill;
@@ -158,7 +123,7 @@ module _ (mills : NumberSet) (before : Trail) (left : NumberSet) (differs : (k :
   all_come : xs ≡ numbers (fresh mills before) 64
   all_come = members_end left xs here split end ∙ numbers_same (has left) (fresh mills before) 64 (λ k low. differs k)
 
-  pub visit_all : (link : Link) (after : Trail) → Reached link before after xs → Visited (fresh mills before) link 64 before after
+  pub visit_all : (link : Option Link) (after : Trail) → Reached link before after xs → Visited (fresh mills before) link 64 before after
   visit_all link after = visited link before after (fresh mills before) 64 xs all_come
 
   pub visit_busy : (load : ℕ → ℕ) → Laden load xs → Busy load (fresh mills before) 64

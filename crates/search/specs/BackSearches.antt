@@ -1,11 +1,9 @@
--- The search back from a mill: what it keeps, the way on from a mill that it reached, and the mill that it chooses.
-use Rattle.std.specs.Prelude.{◌≡◌, ℕ, ◌+◌, ◌<◌, ◌≤◌, false, List, [], ◌∷◌, length, Some, None, slice_index, slice_index_or}
-use Rattle.sets.specs.Sets.{has}
+-- The search back from a mill: what it keeps, and the way on from a mill that it reached.
+use Rattle.std.specs.Prelude.{◌≡◌, ℕ, ◌+◌, ◌<◌, List, [], ◌∷◌, length, Some, None, slice_index_or}
 use Rattle.capability.specs.Meaning.{Meaning}
 use Rattle.semimatching.specs.Chains.{Step, Chain}
 use Rattle.semimatching.specs.Searches.{Backward}
 use Rattle.semimatching.proofs.Links.{Links}
-use Rattle.semimatching.proofs.Places.{is_in}
 use Rattle.semimatching.proofs.SearchSteps.{Searched}
 use Rattle.table.specs.Tally.{Tally, shop_in, placement}
 use Rattle.search.specs.declared.trail.Trail.{Trail}
@@ -15,17 +13,13 @@ use Rattle.search.specs.Trails.{queue_of, link_of, ticket_of, by_of}
 pub record Sought (meaning : Meaning) (tally : Tally) (mill : ℕ) (trail : Trail) (place ticket : ℕ) : Type 0 where
   pub path : ℕ → List Step
   pub searched : Searched (Backward (shop_in meaning tally) (placement tally)) mill (queue_of trail) path place ticket 0
-  pub links : Links mill (queue_of trail) path (ticket_of trail) (by_of trail)
-  pub root : (link_of trail mill).by ≡ None
-  pub reached : (m : ℕ) → has trail.reached m ≡ is_in m (queue_of trail)
-  pub len : trail.len ≡ length (queue_of trail)
-  pub whole : length trail.links ≡ 64
-  pub low : mill < 64
+  pub links : Links mill (queue_of trail) path (ticket_of 0 trail) (by_of trail)
+  pub root : link_of trail mill ≡ None
 
 -- it stands on the mill `towards`
 pub record Visiting (meaning : Meaning) (tally : Tally) (mill : ℕ) (trail : Trail) (place towards ticket : ℕ) : Type 0 where
   pub sought : Sought meaning tally mill trail place ticket
-  pub within : place < trail.len
+  pub within : place < length (queue_of trail)
   pub here : slice_index_or (queue_of trail) place 0 ≡ towards
 
 -- it goes on from one ticket to the next
@@ -33,14 +27,10 @@ abbrev pub GoesOn : Meaning → Tally → Trail → ℕ → ℕ → Trail → Ty
 GoesOn meaning tally before towards ticket after =
     (mill place : ℕ) → Visiting meaning tally mill before place towards ticket → Visiting meaning tally mill after place towards (ticket + 1)
 
--- while a mill is not reached, there is room for one
-abbrev pub Room : Trail → Type 0
-Room trail = (m : ℕ) → m < 64 → has trail.reached m ≡ false → trail.len < 64
-
 -- the steps that the links tell from a mill on
 abbrev pub Way : Trail → ℕ → List Step → Type 0
-Way trail from [] = (link_of trail from).by ≡ None
-Way trail from (s ∷ ss) = (link_of trail from ≡ record { ticket = record { 0 = s.ticket }; by = Some (record { 0 = s.mill }) }) × Way trail s.mill ss
+Way trail from [] = link_of trail from ≡ None
+Way trail from (s ∷ ss) = (link_of trail from ≡ Some (record { ticket = record { 0 = s.ticket }; by = record { 0 = s.mill } })) × Way trail s.mill ss
 
 -- they are a chain
 pub record WayOn (meaning : Meaning) (tally : Tally) (trail : Trail) (from : ℕ) : Type 0 where
@@ -48,11 +38,3 @@ pub record WayOn (meaning : Meaning) (tally : Tally) (trail : Trail) (from : ℕ
   pub steps : List Step
   pub chain : Chain (shop_in meaning tally) (placement tally) from steps mill
   pub way : Way trail from steps
-
--- of the first numbers of a list, the first that has the greatest value
-pub record Greatest (value : ℕ → ℕ) (numbers : List ℕ) (count : ℕ) (number : ℕ) : Type 0 where
-  pub place : ℕ
-  pub within : place < count
-  pub is : slice_index_or numbers place 0 ≡ number
-  pub greatest : (k : ℕ) → k < count → value (slice_index numbers k) ≤ value number
-  pub earliest : (k : ℕ) → k < place → value (slice_index numbers k) < value number

@@ -1,5 +1,6 @@
 pub mod Trails
 pub mod Rules
+pub mod Firsts
 pub mod Visits
 pub mod Routes
 pub mod BackSearches

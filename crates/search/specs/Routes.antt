@@ -1,5 +1,5 @@
 -- What a search from a new ticket is for: the first of the lightest mills that it reached, and the way there.
-use Rattle.std.specs.Prelude.{◌≡◌, ℕ, ◌<◌, ◌≤◌, List, [], ◌∷◌, length, Option, MatchOption, slice_index, slice_index_or}
+use Rattle.std.specs.Prelude.{◌≡◌, ℕ, ◌<◌, List, [], ◌∷◌, length, Option, MatchOption}
 use Rattle.capability.specs.Meaning.{Meaning}
 use Rattle.semimatching.specs.Chains.{Step, moved, carried}
 use Rattle.semimatching.specs.Choice.{walk_from, Placing}
@@ -8,17 +8,9 @@ use Rattle.semimatching.specs.Potentials.{Potential, None}
 use Rattle.semimatching.specs.Prices.{position}
 use Rattle.table.specs.Tally.{Tally, placement}
 use Rattle.search.specs.declared.trail.Trail.{Trail}
+use Rattle.search.specs.Firsts.{Lightest}
 use Rattle.search.specs.Rules.{shop_for}
 use Rattle.search.specs.Trails.{queue_of, ticket_of, from_of}
-use Rattle.search.specs.Visits.{Sound}
-
--- of the mills in a list, w is the first of those with the least load
-pub record Lightest (load : ℕ → ℕ) (queue : List ℕ) (w : ℕ) : Type 0 where
-  pub place : ℕ
-  pub within : place < length queue
-  pub is : slice_index_or queue place 0 ≡ w
-  pub least : (j : ℕ) → j < length queue → load w ≤ load (slice_index queue j)
-  pub earliest : (j : ℕ) → j < place → load w < load (slice_index queue j)
 
 -- the links from w back to the new ticket spell the walk p: by which ticket each mill was reached, and from which mill, or from none
 abbrev pub Leads : ℕ → (ℕ → ℕ) → (ℕ → Option ℕ) → List Step → ℕ → Type 0
@@ -40,6 +32,5 @@ Explored shop at n queue ticket from = (w : ℕ) → Lightest (load shop at) que
 
 -- a search from the ticket n has ended: some mill was reached, and enough of them
 pub record Ended (meaning : Meaning) (tally : Tally) (n program : ℕ) (trail : Trail) : Type 0 where
-  pub sound : Sound trail
-  pub some : 0 < trail.len
-  pub explored : Explored (shop_for meaning tally n program) (placement tally) n (queue_of trail) (ticket_of trail) (from_of trail)
+  pub some : 0 < length (queue_of trail)
+  pub explored : Explored (shop_for meaning tally n program) (placement tally) n (queue_of trail) (ticket_of n trail) (from_of trail)

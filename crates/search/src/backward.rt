@@ -1,27 +1,23 @@
 //! The search back from a mill, and one shift towards it.
-ghost use Rattle.std.specs.Prelude.{◌≡◌, ◌<◌, ◌≤◌, List};
-ghost use Rattle.capability.specs.Meaning.{Meaning};
+ghost use Rattle.std.specs.Prelude.{◌≡◌, ◌<◌, List, length};
 ghost use Rattle.semimatching.specs.Chains.{Step};
-ghost use Rattle.semimatching.specs.Placements.{load};
 ghost use Rattle.table.specs.Held.{meant, tally_of};
-ghost use Rattle.table.specs.Tally.{Tally, shop_in, placement};
-ghost use Rattle.search.specs.BackSearches.{Sought, GoesOn, Room, Way, WayOn, Greatest};
+ghost use Rattle.search.specs.BackSearches.{Sought, GoesOn, Way, WayOn};
+ghost use Rattle.search.specs.Firsts.{Greatest};
 ghost use Rattle.search.specs.Rules.{carried_out};
 ghost use Rattle.search.specs.Shifts.{Shift};
 ghost use Rattle.search.specs.Trails.{queue_of};
+ghost use Rattle.search.specs.Visits.{load_in};
 
+use crate::choice::first_best;
 use crate::link::Link;
-use crate::trail::Trail;
+use crate::trail::{TICKETS, Trail};
 use table::Table;
 use vocabulary::{Mill, Ticket};
-
-/// The most tickets that there can be.
-const TICKETS: u16 = 1024;
 
 impl Trail {
     /// Reaches the mill on which a ticket stands that may go to `towards`, if it is not reached yet.
     fn visit_back(&mut self, table: &Table, ticket: Ticket, towards: Mill)
-        requires { Room self.old }
         ensures { GoesOn (meant table.now) (tally_of table.now) self.old towards.0 ticket.0 self.new }
     {
         if let Some(seat) = table.seat(ticket) {
@@ -30,41 +26,27 @@ impl Trail {
             {
                 self.reach(
                     seat.mill,
-                    Link {
+                    Some(Link {
                         ticket,
-                        by: Some(towards),
-                    },
+                        by: towards,
+                    }),
                 );
             }
         }
     }
 }
 
-/// A trail on which the search back from a mill begins: no other is reached.
-fn start_at(mill: Mill) -> Trail
-    requires { mill.0 < 64 }
-    ensures { (meaning : Meaning) (tally : Tally) → Sought meaning tally mill.0 result 0 0 }
-{
-    let mut trail = Trail::empty();
-    trail.reach(
-        mill,
-        Link {
-            ticket: Ticket(0),
-            by: None,
-        },
-    );
-    trail
-}
-
 /// Reaches the mills from which chains lead to a mill, nearest first; ends when no mill in service is left.
 fn search_to(table: &Table, mill: Mill) -> Trail
     requires { mill.0 < 64 }
-    ensures { Sought (meant table.now) (tally_of table.now) mill.0 result result.len 0 }
+    ensures { Sought (meant table.now) (tally_of table.now) mill.0 result (length (queue_of result)) 0 }
 {
-    let mut trail = start_at(mill);
+    let mut trail = Trail::empty();
+    trail.reach(mill, None);
     let service = table.service();
     let mut next = 0;
-    while next < trail.len && !service.difference(trail.reached).is_empty() {
+    // The queue grows under the loop, so no iterator can borrow it.
+    while next < trail.queue.len() && !service.difference(trail.reached).is_empty() {
         let towards = trail.queue[next];
         for number in 0..TICKETS {
             trail.visit_back(table, Ticket(number), towards);
@@ -76,17 +58,10 @@ fn search_to(table: &Table, mill: Mill) -> Trail
 
 /// The first of the reached mills that has the greatest load.
 fn heaviest(table: &Table, trail: &Trail) -> Mill
-    requires some { 0 < trail.now.len }
-    requires few { trail.now.len ≤ 64 }
-    ensures { Greatest (load (shop_in (meant table.now) (tally_of table.now)) (placement (tally_of table.now))) (queue_of trail.now) trail.now.len result.0 }
+    requires { 0 < length (queue_of trail.now) }
+    ensures { Greatest (load_in (tally_of table.now)) (queue_of trail.now) result.0 }
 {
-    let mut best = trail.queue[0];
-    for place in 1..trail.len {
-        if table.load(best) < table.load(trail.queue[place]) {
-            best = trail.queue[place];
-        }
-    }
-    best
+    first_best(table, &trail.queue, |load, best| load > best)
 }
 
 /// Moves each ticket on the way from a reached mill on to the mill that it leads to.
@@ -96,14 +71,15 @@ fn carry_from(table: &mut Table, trail: &Trail, start: Mill)
     ensures tally { (steps : List Step) → Way trail.now start.0 steps → tally_of table.new ≡ carried_out (tally_of table.old) steps }
 {
     let mut from = start;
-    while let Some(to) = trail.link_to(from).by {
-        table.shift(trail.link_to(from).ticket, to);
-        from = to;
+    while let Some(link) = trail.link_to(from) {
+        table.shift(link.ticket, link.by);
+        from = link.by;
     }
 }
 
-/// Searches for a chain towards a mill, and carries it out if it improves.
-fn shift_along(table: &mut Table, mill: Mill) -> bool
+/// Carries out one chain towards a mill by the rule of finishing and returning, if an improving one exists, and tells whether it
+/// did.
+pub fn shift(table: &mut Table, mill: Mill) -> bool
     requires { mill.0 < 64 }
     ensures { Shift table.old mill.0 result table.new }
 {
@@ -114,13 +90,4 @@ fn shift_along(table: &mut Table, mill: Mill) -> bool
     }
     carry_from(table, &trail, from);
     true
-}
-
-/// Carries out one chain towards a mill by the rule of finishing and returning, if an improving one exists, and tells whether it
-/// did.
-pub fn shift(table: &mut Table, mill: Mill) -> bool
-    requires { mill.0 < 64 }
-    ensures { Shift table.old mill.0 result table.new }
-{
-    shift_along(table, mill)
 }

@@ -1,28 +1,29 @@
 //! The search from a new ticket, and placing it.
-ghost use Rattle.std.specs.Prelude.{◌≡◌, ℕ, ◌<◌, true, false, None};
+ghost use Rattle.std.specs.Prelude.{◌≡◌, ℕ, ◌<◌, true, false, length, None};
 ghost use Rattle.table.specs.Held.{meant, tally_of};
-ghost use Rattle.table.specs.Tally.{mill_for, placement};
-ghost use Rattle.search.specs.Routes.{Lightest, Route, Ended};
-ghost use Rattle.search.specs.Rules.{shop_for, PlacedByRule, EvenIn};
-ghost use Rattle.search.specs.Trails.{queue_of, ticket_of, from_of};
-ghost use Rattle.search.specs.Visits.{Sound, load_in, fresh, Busy, Visited, Stopped};
+ghost use Rattle.table.specs.Tally.{mill_for};
+ghost use Rattle.search.specs.Firsts.{Lightest};
+ghost use Rattle.search.specs.Routes.{Ended};
+ghost use Rattle.search.specs.Rules.{PlacedByRule, EvenIn};
+ghost use Rattle.search.specs.Trails.{queue_of};
+ghost use Rattle.search.specs.Visits.{load_in, fresh, Busy, Visited, Stopped};
 
+use crate::choice::first_best;
 use crate::link::Link;
-use crate::trail::Trail;
+use crate::trail::{TICKETS, Trail};
 use sets::NumberSet;
 use table::{Seat, Table};
 use vocabulary::{Mill, Program, Ticket};
 
 impl Trail {
-    /// Reaches those mills of a ticket that are not reached yet, in rising order; stops at the first that is empty, and tells so.
-    fn visit(&mut self, table: &Table, ticket: Ticket, mills: NumberSet, by: Option<Mill>) -> bool
-        requires { Sound self.old }
+    /// Reaches those of some mills that are not reached yet, in rising order; stops at the first that is empty, and tells so.
+    fn visit(&mut self, table: &Table, mills: NumberSet, link: Option<Link>) -> bool
         ensures busy { result ≡ false → Busy (load_in (tally_of table.now)) (fresh mills self.old) 64 }
-        ensures all { result ≡ false → Visited (fresh mills self.old) (record { ticket = ticket; by = by }) 64 self.old self.new }
-        ensures stopped { result ≡ true → Stopped (load_in (tally_of table.now)) (fresh mills self.old) (record { ticket = ticket; by = by }) self.old self.new }
+        ensures all { result ≡ false → Visited (fresh mills self.old) link 64 self.old self.new }
+        ensures stopped { result ≡ true → Stopped (load_in (tally_of table.now)) (fresh mills self.old) link self.old self.new }
     {
         for mill in mills.difference(self.reached).iter() {
-            self.reach(Mill(mill), Link { ticket, by });
+            self.reach(Mill(mill), link);
             let empty = table.load(Mill(mill)) == 0;
             if empty {
                 return true;
@@ -41,22 +42,22 @@ fn search_from(table: &Table, ticket: Ticket, program: Program) -> Trail
     ensures { Ended (meant table.now) (tally_of table.now) ticket.0 program.0 result }
 {
     let mut trail = Trail::empty();
-    if trail.visit(table, ticket, table.mills_for(program), None) {
+    if trail.visit(table, table.mills_for(program), None) {
         return trail;
     }
     let service = table.service();
     let mut next = 0;
-    'search: while next < trail.len && !service.difference(trail.reached).is_empty() {
+    // The queue grows under the loop, so no iterator can borrow it.
+    'search: while next < trail.queue.len() && !service.difference(trail.reached).is_empty() {
         let mill = trail.queue[next];
-        for number in 0..1024 {
+        for number in 0..TICKETS {
             if let Some(seat) = table.seat(Ticket(number)) {
-                if seat.mill.0 == mill.0
-                    && trail.visit(
-                        table,
-                        Ticket(number),
-                        table.mills_for(seat.program),
-                        Some(mill),
-                    )
+                let link = Link {
+                    ticket: Ticket(number),
+                    by: mill,
+                };
+                if seat.mill == mill
+                    && trail.visit(table, table.mills_for(seat.program), Some(link))
                 {
                     break 'search;
                 }
@@ -69,46 +70,10 @@ fn search_from(table: &Table, ticket: Ticket, program: Program) -> Trail
 
 /// The first of the reached mills that has the least load.
 fn lightest(table: &Table, trail: &Trail) -> Mill
-    requires sound { Sound trail.now }
-    requires some { 0 < trail.now.len }
+    requires { 0 < length (queue_of trail.now) }
     ensures { Lightest (load_in (tally_of table.now)) (queue_of trail.now) result.0 }
 {
-    let mut best = trail.queue[0];
-    for place in 1..trail.len {
-        let mill = trail.queue[place];
-        if table.load(mill) < table.load(best) {
-            best = mill;
-        }
-    }
-    best
-}
-
-/// Moves each ticket on the way to `end` on to the mill that it leads to, and seats the new ticket on the first mill of the way.
-fn place_along(
-    table: &mut Table,
-    trail: &Trail,
-    ticket: Ticket,
-    program: Program,
-    end: Mill,
-) -> Mill
-    requires exists { ticket.0 < 1024 }
-    requires away { (tally_of table.old).seat ticket.0 ≡ None }
-    requires route { Route (shop_for (meant table.old) (tally_of table.old) ticket.0 program.0) (placement (tally_of table.old)) ticket.0 (ticket_of trail.now) (from_of trail.now) end.0 }
-    ensures meaning { meant table.new ≡ meant table.old }
-    ensures rule { PlacedByRule (meant table.old) (tally_of table.old) ticket.0 program.0 (tally_of table.new) result.0 }
-    ensures even { EvenIn (meant table.old) (tally_of table.old) → EvenIn (meant table.new) (tally_of table.new) }
-{
-    let mut to = end;
-    while let Link {
-        ticket: moving,
-        by: Some(from),
-    } = trail.link_to(to)
-    {
-        table.shift(moving, to);
-        to = from;
-    }
-    table.put(ticket, Seat { program, mill: to });
-    to
+    first_best(table, &trail.queue, |load, best| load < best)
 }
 
 /// Places a ticket by the rule of adding, and tells its mill.
@@ -122,5 +87,12 @@ pub fn place(table: &mut Table, ticket: Ticket, program: Program) -> Mill
 {
     let trail = search_from(table, ticket, program);
     let end = lightest(table, &trail);
-    place_along(table, &trail, ticket, program, end)
+    // Each ticket on the way moves on to the mill that it leads to, and the new one goes to the first mill of the way.
+    let mut to = end;
+    while let Some(link) = trail.link_to(to) {
+        table.shift(link.ticket, to);
+        to = link.by;
+    }
+    table.put(ticket, Seat { program, mill: to });
+    to
 }

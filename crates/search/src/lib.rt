@@ -2,6 +2,7 @@
 #![tactic(auto)]
 
 mod backward;
+mod choice;
 mod forward;
 mod link;
 mod trail;

@@ -1,61 +1,59 @@
 //! What a search has reached.
-ghost use Rattle.std.specs.Prelude.{◌≡◌, ℕ, ◌<◌, false, ◌||◌, [], ◌∷◌, ◌++◌, length, ◌==◌, ◌≢◌, slice_set};
-ghost use Rattle.sets.specs.Sets.{has};
-ghost use Rattle.search.specs.Trails.{queue_of, link_of};
+ghost use Rattle.std.specs.Prelude.{◌≡◌, ℕ, ◌<◌, true, false, [], ◌∷◌, ◌++◌, map, length, ◌≢◌};
+ghost use Rattle.sets.specs.Sets.{has, members, member};
 
 use crate::link::Link;
+use arrayvec::ArrayVec;
 use sets::NumberSet;
-use vocabulary::{Mill, Ticket};
+use vocabulary::Mill;
+
+/// The most tickets that there can be.
+pub(crate) const TICKETS: u16 = 1024;
 
 /// The most mills that there can be.
-pub(crate) const MILLS: usize = 64;
+const MILLS: usize = 64;
 
-/// The mills that a search has reached, in the order in which it reached them, and how it reached each.
-#[derive(Clone, Copy)]
+/// The mills that a search has reached, in the order in which it reached them and as a set, and how it reached each: no link
+/// where it began. No mill is reached twice, and each is below 64.
+#[derive(Drop)]
 pub(crate) struct Trail {
-    pub(crate) queue: [Mill; MILLS],
-    pub(crate) len: usize,
+    pub(crate) queue: ArrayVec<Mill, MILLS>,
     pub(crate) reached: NumberSet,
-    pub(crate) links: [Link; MILLS],
+    links: [Option<Link>; MILLS],
+    ghost known: { (m : ℕ) → has reached m ≡ member m (map (λ mill. mill.0) queue.items) },
+    ghost below: { (m : ℕ) → has reached m ≡ true → m < 64 },
+    ghost once: { length queue.items ≡ length (members reached) },
 }
 
 impl Trail {
+    ghost use Rattle.search.specs.Trails.{queue_of, link_of};
+
     /// A trail on which nothing is reached.
     pub(crate) fn empty() -> Trail
-        ensures none { queue_of result ≡ [] }
-        ensures reached { (m : ℕ) → has result.reached m ≡ false }
-        ensures len { result.len ≡ 0 }
+        ensures { queue_of result ≡ [] }
     {
         Trail {
-            queue: [Mill(0); MILLS],
-            len: 0,
+            queue: ArrayVec::new(),
             reached: NumberSet::empty(),
-            links: [Link {
-                ticket: Ticket(0),
-                by: None,
-            }; MILLS],
+            links: [None; MILLS],
         }
     }
 
     /// Reaches one mill more.
-    pub(crate) fn reach(&mut self, mill: Mill, link: Link)
+    pub(crate) fn reach(&mut self, mill: Mill, link: Option<Link>)
         requires mill { mill.0 < 64 }
-        requires room { self.old.len < 64 }
+        requires new { has self.old.reached mill.0 ≡ false }
         ensures queue { queue_of self.new ≡ queue_of self.old ++ (mill.0 ∷ []) }
-        ensures len { self.new.len ≡ length (queue_of self.new) }
-        ensures reached { (m : ℕ) → has self.new.reached m ≡ (m == mill.0 || has self.old.reached m) }
-        ensures links { self.new.links ≡ slice_set self.old.links mill.0 link }
         ensures link { link_of self.new mill.0 ≡ link }
         ensures others { (m : ℕ) → (m ≢ mill.0) → link_of self.new m ≡ link_of self.old m }
     {
-        self.queue[self.len] = mill;
-        self.len += 1;
+        self.queue.push(mill);
         self.reached.insert(mill.0);
         self.links[usize::from(mill.0)] = link;
     }
 
-    /// How a mill was reached.
-    pub(crate) fn link_to(&self, mill: Mill) -> Link
+    /// How a mill was reached, if the search did not begin there.
+    pub(crate) fn link_to(&self, mill: Mill) -> Option<Link>
         requires { mill.0 < 64 }
         ensures { result ≡ link_of self.now mill.0 }
     {

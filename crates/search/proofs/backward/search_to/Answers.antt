@@ -1,53 +1,32 @@
-use Rattle.std.proofs.Common.{◌<◌, sym, arith, rules}
+use Rattle.std.proofs.Common.{refl, ap, ◌∙◌, arith}
+use Rattle.sets.specs.Sets.{member}
 use Rattle.table.specs.Held.{meant, tally_of}
-use Rattle.table.proofs.TableLaws.{semi}
-use Rattle.search.specs.BackSearches.{Sought}
-use Rattle.search.proofs.BackwardSteps.{sought_first, sought_from, sought_few, sought_room, sought_done, sought_rest, queue_at, visit_first, visit_last, stands_reached}
+use Rattle.search.proofs.BackwardSteps.{seek_start, sought_done, sought_rest, visit_last, stands_reached}
+use Rattle.search.proofs.TrailLaws.{queue_length}
 use Rattle.search.proofs.SearchFrom.{all_reached}
 use Rattle.search.proofs.backward.search_to.Goals as goal
-use Rattle.search.proofs.backward.search_to.Goals.{At-loop-next, at-returns-else-not-is_empty, at-returns-after-loop-next}
+
+pub reach-requires-clause-new : goal.reach-requires-clause-new
+reach-requires-clause-new c = c.empty-trail.result.known c.args.mill.0 ∙ ap (member c.args.mill.0) c.empty-trail.ensures
 
 pub loop-next-init : goal.loop-next-init
-loop-next-init c =
-    let S = c.start_at-trail.ensures _ _ in
-    (omega arith, sought_from S _ (sym (sought_first S)))
-
-pub bounds-trail-next : goal.bounds-trail-next
-bounds-trail-next c = omega (arith, sought_few c.loop-next.invariant.1 (semi c.args.table.now), c.loop-next-test.true)
-
-pub loop-number-init : goal.loop-number-init
-loop-number-init c =
-    let S = c.loop-next.invariant.1 in
-    visit_first (sought_from S _ (sym (sought_first S))) c.loop-next-test.true (queue_at c.loop-next.trail c.loop-next.next S.len c.loop-next-test.true)
-
-pub visit_back-requires : goal.visit_back-requires
-visit_back-requires c = sought_room c.loop-number.invariant.sought (semi c.args.table.now)
+loop-next-init c = (
+  omega arith,
+  seek_start c.args.mill.0 c.empty-trail.result _ c.reach.new.self (record { queue = c.reach.ensures.queue; here = c.reach.ensures.link; others = c.reach.ensures.others })
+      refl c.empty-trail.ensures (meant c.args.table.now) (tally_of c.args.table.now),
+)
 
 pub loop-number-preserved : goal.loop-number-preserved
 loop-number-preserved c = c.visit_back.ensures _ _ c.loop-number.invariant
 
-under : (c : goal.After-loop-number) → c.loop-next.next < 64
-under c = omega (arith, sought_few c.loop-next.invariant.1 (semi c.args.table.now), c.loop-next-test.true)
-
-pub overflow_add-next : goal.overflow_add-next
-overflow_add-next c = let low = under c in search rules
-
-pub loop-next-smaller : goal.loop-next-smaller
-loop-next-smaller c = omega (arith, under c)
-
 pub loop-next-preserved : goal.loop-next-preserved
-loop-next-preserved c =
-    (omega (arith, c.loop-number.invariant.within), sought_from (visit_last _ c.loop-number-test.false c.loop-number.invariant) _ (sought_first c.loop-next.invariant.1))
-
--- the search leads back from the mill
-sought : (c : At-loop-next) → Sought (meant c.args.table.now) (tally_of c.args.table.now) c.args.mill.0 c.loop-next.trail c.loop-next.next 0
-sought c = sought_from c.loop-next.invariant.1 _ (sought_first (c.start_at-trail.ensures (meant c.args.table.now) (tally_of c.args.table.now)))
+loop-next-preserved c = (omega (arith, c.loop-number.invariant.within), visit_last _ c.loop-number-test.false c.loop-number.invariant)
 
 pub returns-else-not-is_empty : goal.returns-else-not-is_empty
 returns-else-not-is_empty c =
-    sought_rest (sought (at-returns-else-not-is_empty c).At-loop-next)
+    sought_rest c.loop-next.invariant.1
     (stands_reached c.args.table.now c.loop-next.trail
     (all_reached (tally_of c.args.table.now) c.loop-next.trail c.service-service.result c.difference.result c.service-service.ensures c.difference.ensures c.if-not-is_empty.ensures))
 
 pub returns-after-loop-next : goal.returns-after-loop-next
-returns-after-loop-next c = sought_done (sought (at-returns-after-loop-next c).At-loop-next) c.loop-next.invariant.0 c.loop-next-test.false
+returns-after-loop-next c = sought_done c.loop-next.invariant.1 c.loop-next.invariant.0 (omega (arith, queue_length c.loop-next.trail, c.len.ensures.value, c.loop-next-test.false))

@@ -1,11 +1,7 @@
 use Rattle.std.proofs.Common.{◌≤◌, arith, rules}
-use Rattle.table.proofs.TableLaws.{semi, load_few}
+use Rattle.table.proofs.TableLaws.{load_few}
 use Rattle.search.proofs.BackwardShift.{shift_none, shift_on, shift_done}
-use Rattle.search.proofs.BackwardSteps.{sought_some, sought_few}
-use Rattle.search.proofs.backward.shift_along.Goals as goal
-
-pub heaviest-from-requires : goal.heaviest-from-requires
-heaviest-from-requires c = let S = c.search_to-trail.ensures in record { some = sought_some S; few = sought_few S (semi c.args.table.now) }
+use Rattle.search.proofs.backward.shift.Goals as goal
 
 pub overflow_add-load : goal.overflow_add-load
 overflow_add-load c = let few : c.load-2.result ≤ 1024 = omega (arith, c.load-2.ensures, load_few c.args.table.now c.args.mill.0) in search rules
