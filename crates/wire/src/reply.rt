@@ -18,3 +18,14 @@ pub enum Reply {
     /// The command is refused.
     Refused { refusal: Refusal },
 }
+
+impl From<Refusal> for Reply {
+    ghost use Rattle.std.specs.Prelude.{◌≡◌};
+    ghost use Rattle.wire.specs.declared.reply.Reply.TheVariants.{Refused};
+
+    ghost from_gives = { λ refusal reply. reply ≡ Refused refusal };
+
+    fn from(refusal: Refusal) -> Reply {
+        Reply::Refused { refusal }
+    }
+}
