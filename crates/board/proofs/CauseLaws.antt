@@ -1,5 +1,6 @@
 -- Which causes a call has, and which of them comes first: one lemma for each row of the table and each call.
-use Rattle.std.proofs.Common.{◌≡◌, ℕ, ◌<◌, ◌≤◌, Bool, true, false, not, ◌&&◌, eqb, length, is_some, Some, None, Option, sym, refl, ap, ◌∙◌, subst, ⊎_elim, arith, MatchOption}
+use Rattle.std.proofs.Common.{◌≡◌, ℕ, ◌<◌, ◌≤◌, Bool, true, false, not, ◌&&◌, eqb, length, is_some, Some, None, Option, Ok, Err, Result, sym, refl, ap, ◌∙◌, subst, ⊎_elim, arith, ◌↔◌, IsTrue, MatchOption, MatchResult}
+use Rattle.std.proofs.lemmas.Option.{none-some, same_Some}
 use Rattle.std.specs.Option.{option_map}
 use Rattle.std.proofs.lemmas.Bool.{and_from, and_left, and_parts, and_right, both_ways, cases_Bool, cases_eq, cases_lt, eq-eqb, eqb-false, eqb-true, ne_eqb, not_from_false, not_from_true}
 use Rattle.sets.specs.Sets.{has, members}
@@ -14,31 +15,44 @@ use Rattle.vocabulary.specs.declared.refusal.Refusal.TheVariants.{NoSuchTicket, 
 use Rattle.capability.specs.Meaning.{Meaning}
 use Rattle.table.specs.Held.{meant, tally_of}
 use Rattle.table.specs.Seats.{place_of}
-use Rattle.table.specs.Tally.{Tally, Place, mill_for, mill_of, standing}
+use Rattle.table.specs.Tally.{Tally, mill_for, mill_of, standing}
 use Rattle.table.specs.declared.seat.Seat.{Seat}
 use Rattle.table.specs.declared.table.Table.{Table}
 use Rattle.table.proofs.TableLaws.{service_few, placed_few}
 use Rattle.board.specs.declared.call.Call.{Call}
 use Rattle.board.specs.declared.call.Call.TheVariants.{Add, Done, Withdraw, Return}
-use Rattle.board.specs.Causes.{Strands, Cause, no_ticket_to_add, no_ticket_to_finish, stands, away, unable, no_mill_to_withdraw, no_mill_to_return, out, serves, stranded, short, Accepted, Refused}
+use Rattle.board.specs.Causes.{Strands, Cause, no_ticket_to_add, no_ticket_to_finish, stands, away, unable, no_mill_to_withdraw, no_mill_to_return, out, serves, stranded, short, Accepted, Acceptable, Refused, Judged}
 
 -- a refusal comes first where each cause of the call has its number or a larger one
 abbrev Least : ℕ → Refusal → Type 0
 Least number other = number ≤ (told other).number
 
+-- ---- the length of the move list, which decides once every other cause is out
+
+-- a call that may be accepted has no cause but a short list
+only_short : (meaning : Meaning) (tally : Tally) (call : Call) → Acceptable meaning tally call → (room : ℕ) (P : Refusal → Type 0) → (room < standing tally → P (ShortList (standing tally)))
+    → (r : Refusal) → Cause meaning tally room call r → P r
+only_short meaning tally _ may room P at14 _ (no_ticket_to_add past) = absurd (may.1 _ (no_ticket_to_add past))
+only_short meaning tally _ may room P at14 _ (no_ticket_to_finish past) = absurd (may.1 _ (no_ticket_to_finish past))
+only_short meaning tally _ may room P at14 _ (stands here) = absurd (may.1 _ (stands here))
+only_short meaning tally _ may room P at14 _ (away gone) = absurd (may.1 _ (away gone))
+only_short meaning tally _ may room P at14 _ (unable none) = absurd (may.1 _ (unable none))
+only_short meaning tally _ may room P at14 _ (no_mill_to_withdraw past) = absurd (may.1 _ (no_mill_to_withdraw past))
+only_short meaning tally _ may room P at14 _ (no_mill_to_return past) = absurd (may.1 _ (no_mill_to_return past))
+only_short meaning tally _ may room P at14 _ (out idle) = absurd (may.1 _ (out idle))
+only_short meaning tally _ may room P at14 _ (serves busy) = absurd (may.1 _ (serves busy))
+only_short meaning tally _ may room P at14 _ (stranded here lowest) = absurd (may.1 _ (stranded here lowest))
+only_short meaning tally call may room P at14 _ (short less) = at14 less
+
+pub judged_by_list : (meaning : Meaning) (tally : Tally) (call : Call) → Acceptable meaning tally call → (room : ℕ) (r : Result (Unit {0}) Refusal)
+    → MatchResult r (λ _. standing tally ≤ room) (λ e. (room < standing tally) × (e ≡ ShortList (standing tally))) → Judged meaning tally room call r
+judged_by_list meaning tally call may room (Ok _) fits = only_short meaning tally call may room (λ _. ⊥) (λ less. omega arith)
+judged_by_list meaning tally call may room (Err e) less = subst (Refused meaning tally room call) (sym less.1) (record {
+  cause = short less.0;
+  first = only_short meaning tally call may room (Least 14) (λ _. omega arith);
+})
+
 module _ (meaning : Meaning) (tally : Tally) (room : ℕ) where
-  -- what the length of the move list decides, once every other cause is out
-  abbrev Listed : Option Refusal → Type 0
-  Listed r = MatchOption r (standing tally ≤ room) (λ e. (room < standing tally) × (e ≡ ShortList (standing tally)))
-
-  abbrev Judged : Call → Option Refusal → Type 0
-  Judged call r = MatchOption r (Accepted meaning tally room call) (Refused meaning tally room call)
-
-  by_list : (call : Call) → (standing tally ≤ room → Accepted meaning tally room call) → (room < standing tally → Refused meaning tally room call (ShortList (standing tally)))
-      → (r : Option Refusal) → Listed r → Judged call r
-  by_list call fits less None h = fits h
-  by_list call fits less (Some e) h = subst (Refused meaning tally room call) (sym h.1) (less h.0)
-
   -- ---- adding
 
   module _ (t : Ticket) (p : Program) where
@@ -74,17 +88,8 @@ module _ (meaning : Meaning) (tally : Tally) (room : ℕ) where
         }
 
         module _ (able : ((m : ℕ) → mill_for meaning tally.service p.0 m ≡ false) → ⊥) where
-          pub add_short : room < standing tally → Refused meaning tally room (Add t p) (ShortList (standing tally))
-          add_short less = record {
-            cause = short less;
-            first = add_each (Least 14) (λ past. omega arith) (λ here. absurd (both_ways _ gone here)) (λ none. absurd (able none)) (λ _. omega arith);
-          }
-
           pub add_accepted : standing tally ≤ room → Accepted meaning tally room (Add t p)
           add_accepted fits = add_each (λ _. ⊥) (λ past. omega arith) (both_ways _ gone) able (λ less. omega arith)
-
-          pub add_list : (r : Option Refusal) → Listed r → Judged (Add t p) r
-          add_list = by_list (Add t p) add_accepted add_short
 
   -- ---- finishing
 
@@ -112,17 +117,8 @@ module _ (meaning : Meaning) (tally : Tally) (room : ℕ) where
       }
 
       module _ (here : is_some (tally.seat t.0) ≡ true) where
-        pub done_short : room < standing tally → Refused meaning tally room (Done t) (ShortList (standing tally))
-        done_short less = record {
-          cause = short less;
-          first = done_each (Least 14) (λ past. omega arith) (λ gone. absurd (both_ways _ gone here)) (λ _. omega arith);
-        }
-
         pub done_accepted : standing tally ≤ room → Accepted meaning tally room (Done t)
         done_accepted fits = done_each (λ _. ⊥) (λ past. omega arith) (λ gone. both_ways _ gone here) (λ less. omega arith)
-
-        pub done_list : (r : Option Refusal) → Listed r → Judged (Done t) r
-        done_list = by_list (Done t) done_accepted done_short
 
   -- ---- withdrawing
 
@@ -160,17 +156,8 @@ module _ (meaning : Meaning) (tally : Tally) (room : ℕ) where
         }
 
         module _ (free : (k : ℕ) → Strands meaning tally m.0 k → ⊥) where
-          pub withdraw_short : room < standing tally → Refused meaning tally room (Withdraw m) (ShortList (standing tally))
-          withdraw_short less = record {
-            cause = short less;
-            first = withdraw_each (Least 14) (λ past. omega arith) (λ idle. absurd (both_ways _ idle busy)) (λ t here _. absurd (free t.0 here)) (λ _. omega arith);
-          }
-
           pub withdraw_accepted : standing tally ≤ room → Accepted meaning tally room (Withdraw m)
           withdraw_accepted fits = withdraw_each (λ _. ⊥) (λ past. omega arith) (λ idle. both_ways _ idle busy) (λ t here _. free t.0 here) (λ less. omega arith)
-
-          pub withdraw_list : (r : Option Refusal) → Listed r → Judged (Withdraw m) r
-          withdraw_list = by_list (Withdraw m) withdraw_accepted withdraw_short
 
     -- ---- returning
 
@@ -197,17 +184,8 @@ module _ (meaning : Meaning) (tally : Tally) (room : ℕ) where
       }
 
       module _ (idle : tally.service m.0 ≡ false) where
-        pub return_short : room < standing tally → Refused meaning tally room (Return m) (ShortList (standing tally))
-        return_short less = record {
-          cause = short less;
-          first = return_each (Least 14) (λ past. omega arith) (λ busy. absurd (both_ways _ idle busy)) (λ _. omega arith);
-        }
-
         pub return_accepted : standing tally ≤ room → Accepted meaning tally room (Return m)
         return_accepted fits = return_each (λ _. ⊥) (λ past. omega arith) (both_ways _ idle) (λ less. omega arith)
-
-        pub return_list : (r : Option Refusal) → Listed r → Judged (Return m) r
-        return_list = by_list (Return m) return_accepted return_short
 
 -- ---- sets of mills that have no member
 
@@ -246,34 +224,63 @@ module _ (table : Table) where
     pub able_since : eqb (length (members set)) 0 ≡ false → ((m : ℕ) → may p m ≡ false) → ⊥
     able_since some none = one_in set some (λ m. is m ∙ none m)
 
-  -- ---- a ticket that stands on a mill, and the other mills for its program
+  -- ---- the only mill for a program
 
-  module _ (mill ticket : ℕ) (place : Place) (at : (tally_of table).seat ticket ≡ Some place) (set others : NumberSet)
-      (is : (m : ℕ) → has set m ≡ may place.program m) (fewer : (m : ℕ) → has others m ≡ (not (eqb m mill) && has set m)) where
-    may_stand : (m : ℕ) → mill_of (meant table) (tally_of table).service ((tally_of table).seat ticket) m ≡ has set m
-    may_stand m = ap (λ seat. mill_of (meant table) (tally_of table).service seat m) at ∙ sym (is m)
+  abbrev Only : ℕ → ℕ → Type 0
+  Only mill p = (m : ℕ) → may p m ≡ true → m ≡ mill
 
-    pub strands_since : place.mill ≡ mill → eqb (length (members others)) 0 ≡ true → Strands (meant table) (tally_of table) mill ticket
-    strands_since here empty = record {
-      on = ap (option_map (λ q. q.mill)) at ∙ ap Some here;
-      only = λ m can. ⊎_elim (λ same. same) (λ other. absurd (none m (sym (may_stand m) ∙ can) other)) (cases_eq m mill);
-    }
+  module _ (mill p : ℕ) (set others : NumberSet) (is : (m : ℕ) → has set m ≡ may p m) (fewer : (m : ℕ) → has others m ≡ (not (eqb m mill) && has set m)) where
+    few : (m : ℕ) → has others m ≡ true → m < 64
+    few m kept = set_few p set is m (and_parts (not (eqb m mill)) (has set m) (sym (fewer m) ∙ kept)).1
+
+    pub only_since : eqb (length (members others)) 0 ≡ true → Only mill p
+    only_since empty m able = ⊎_elim (λ same. same) (λ other. absurd (both_ways (has others m) (none_in others few empty m) (kept other))) (cases_eq m mill)
       where
-        few : (m : ℕ) → has others m ≡ true → m < 64
-        few m kept = set_few place.program set is m (and_parts (not (eqb m mill)) (has set m) (sym (fewer m) ∙ kept)).1
+        kept : (m ≡ mill → ⊥) → has others m ≡ true
+        kept other = fewer m ∙ and_from (not (eqb m mill)) (has set m) (not_from_false (eqb m mill) (ne_eqb m mill other)) (is m ∙ able)
 
-        none : (m : ℕ) → has set m ≡ true → (m ≡ mill → ⊥) → ⊥
-        none m able other = both_ways (has others m) (none_in others few empty m) (fewer m ∙ and_from (not (eqb m mill)) (has set m) (not_from_false (eqb m mill) (ne_eqb m mill other)) able)
-
-    pub free_since : eqb (length (members others)) 0 ≡ false → Strands (meant table) (tally_of table) mill ticket → ⊥
-    free_since some strands = one_in others some (λ m. fewer m ∙ ⊎_elim (same m) (other m) (cases_eq m mill))
+    pub empty_since : Only mill p → eqb (length (members others)) 0 ≡ true
+    empty_since only = ⊎_elim (λ empty. empty) (λ some. absurd (one_in others some gone)) (cases_Bool (eqb (length (members others)) 0))
       where
         same : (m : ℕ) → m ≡ mill → (not (eqb m mill) && has set m) ≡ false
         same m e = and_left (not (eqb m mill)) (has set m) (not_from_true (eqb m mill) (eq-eqb m mill e))
 
         other : (m : ℕ) → (m ≡ mill → ⊥) → (not (eqb m mill) && has set m) ≡ false
-        other m d = and_right (not (eqb m mill)) (has set m) (false_since (has set m) (λ able. d (strands.only m (may_stand m ∙ able))))
+        other m d = and_right (not (eqb m mill)) (has set m) (false_since (has set m) (λ able. d (only m (sym (is m) ∙ able))))
+
+        gone : (m : ℕ) → has others m ≡ false
+        gone m = fewer m ∙ ⊎_elim (same m) (other m) (cases_eq m mill)
+
+  -- ---- tickets that stand on a mill and may stand on no other
+
+  -- by the seat that was read, and what was found of it
+  pub strands_seated : (mill ticket : ℕ) (seat : Option Seat) (found : Bool) {Q : Seat → Type 0} → option_map place_of seat ≡ (tally_of table).seat ticket → MatchOption seat (found ≡ false) Q
+      → ((s : Seat) → Q s → IsTrue found ↔ ((s.mill.0 ≡ mill) × Only mill s.program.0)) → IsTrue found ↔ Strands (meant table) (tally_of table) mill ticket
+  strands_seated mill ticket None found at not says =
+      (λ yes. absurd (both_ways found not yes), λ strands. absurd (none-some mill (ap (option_map (λ place. place.mill)) at ∙ strands.on)))
+  strands_seated mill ticket (Some s) found at q says =
+      let means = says s q in
+      let can_stand : (m : ℕ) → may s.program.0 m ≡ mill_of (meant table) (tally_of table).service ((tally_of table).seat ticket) m = λ m. ap (λ seat. mill_of (meant table) (tally_of table).service seat m) at in (
+        λ yes. record {
+          on = sym (ap (option_map (λ place. place.mill)) at) ∙ ap Some (means.0 yes).0;
+          only = λ m can. (means.0 yes).1 m (can_stand m ∙ can);
+        },
+        λ strands. means.1 (same_Some s.mill.0 mill (ap (option_map (λ place. place.mill)) at ∙ strands.on), λ m can. strands.only m (sym (can_stand m) ∙ can)),
+      )
 
   -- a ticket from 1,024 on strands nowhere
-  pub strands_few : (mill ticket : ℕ) → Strands (meant table) (tally_of table) mill ticket → ticket < 1024
+  strands_few : (mill ticket : ℕ) → Strands (meant table) (tally_of table) mill ticket → ticket < 1024
   strands_few mill ticket strands = placed_few table ticket mill strands.on
+
+  abbrev Free : ℕ → ℕ → Type 0
+  Free mill k = Strands (meant table) (tally_of table) mill k → ⊥
+
+  abbrev Lowest : ℕ → Option Ticket → Type 0
+  Lowest mill ticket = MatchOption ticket ((k : ℕ) → Free mill k) (λ t. Strands (meant table) (tally_of table) mill t.0 × ((k : ℕ) → k < t.0 → Free mill k))
+
+  -- the first such number below 1,024 is the lowest such ticket of all
+  pub lowest_since : (mill : ℕ) (number : Option ℕ) (ticket : Option Ticket)
+      → MatchOption number ((k : ℕ) → 0 ≤ k → k < 1024 → Free mill k) (λ i. (0 ≤ i) × (i < 1024) × Strands (meant table) (tally_of table) mill i × ((k : ℕ) → 0 ≤ k → k < i → Free mill k))
+      → ticket ≡ option_map (λ n. record { 0 = n }) number → Lowest mill ticket
+  lowest_since mill None ticket none is = subst (Lowest mill) (sym is) (λ k strands. none k (omega arith) (strands_few mill k strands) strands)
+  lowest_since mill (Some i) ticket first is = subst (Lowest mill) (sym is) (first.2, λ k less. first.3 k (omega arith) less)

@@ -1,15 +1,13 @@
 -- The tickets of a mill come off, one after the other.
 use Rattle.std.proofs.Common.{◌≡◌, ℕ, ◌+◌, ◌<◌, ◌≤◌, true, false, eqb, None, sym, refl, ap, ◌∙◌, ⊎_elim, arith}
-use Rattle.std.proofs.lemmas.Bool.{cases_Bool, cases_eq, cases_lt, cond-true, cond-false, eq-eqb, ne_eqb, both_ways}
+use Rattle.std.proofs.lemmas.Bool.{cases_Bool, cases_eq, cond-true, cond-false, eq-eqb, ne_eqb, both_ways}
 use Rattle.semimatching.specs.Placements.{stands_on, load}
 use Rattle.semimatching.proofs.Loads.{load_empty}
 use Rattle.capability.specs.Meaning.{Meaning}
 use Rattle.table.specs.Held.{meant, tally_of}
 use Rattle.table.specs.Tally.{Tally, shop_in, placement, seated}
 use Rattle.table.specs.declared.table.Table.{Table}
-use Rattle.table.proofs.TableLaws.{seat_past}
 use Rattle.board.specs.Rules.{cleared}
-use Rattle.board.proofs.RecordMoves.{tally_same}
 use Rattle.board.proofs.TallyLaws.{mill_at}
 
 -- those below n that stood on the mill are off
@@ -18,14 +16,6 @@ pub record Clearing (start : Table) (mill n : ℕ) (table : Table) : Type 0 wher
   pub below : (t : ℕ) → t < n → (tally_of table).seat t ≡ (cleared (tally_of start) mill).seat t
   pub above : (t : ℕ) → n ≤ t → (tally_of table).seat t ≡ (tally_of start).seat t
   pub service : (tally_of table).service ≡ (tally_of start).service
-
-pub clearing_start : (start : Table) (mill : ℕ) → Clearing start mill 0 start
-clearing_start start mill = record {
-  meaning = refl;
-  below = λ t low. absurd (omega arith);
-  above = λ t high. refl;
-  service = refl;
-}
 
 module _ (start : Table) (mill n : ℕ) (table : Table) (so : Clearing start mill n table) where
   here : stands_on (placement (tally_of start) n) mill ≡ stands_on (placement (tally_of table) n) mill
@@ -63,18 +53,6 @@ module _ (start : Table) (mill n : ℕ) (table : Table) (so : Clearing start mil
     above = λ t high. ap (λ table. (tally_of table).seat t) same ∙ so.above t (omega arith);
     service = ap (λ table. (tally_of table).service) same ∙ so.service;
   }
-
-  pub clearing_all : n ≡ 1024 → tally_of table ≡ cleared (tally_of start) mill
-  clearing_all all =
-      tally_same (tally_of table) (cleared (tally_of start) mill)
-      (λ t.
-      ⊎_elim
-      (λ (low : t < 1024). so.below t (omega arith))
-      (λ (high : 1024 ≤ t).
-      so.above t (omega arith)
-      ∙ sym (cond-false (stands_on (placement (tally_of start) t) mill) None ((tally_of start).seat t) (ap (λ seat. stands_on (mill_at seat) mill) (seat_past start t high))))
-      (cases_lt t 1024))
-      so.service
 
 -- no ticket stands on a mill that is cleared
 pub cleared_empty : (meaning : Meaning) (before : Tally) (mill : ℕ) → load (shop_in meaning (cleared before mill)) (placement (cleared before mill)) mill ≡ 0

@@ -50,9 +50,6 @@ module _ (before start : Table) (mill n : ℕ) (table : Table) (so : Replacing b
     was_on_lem : was_on before mill n ≡ true
     was_on_lem = ap (λ seat. stands_on (mill_at seat) mill) stood ∙ eq-eqb place.mill mill on
 
-    pub replacing_away : (tally_of table).seat n ≡ None
-    replacing_away = so.later n (omega arith) was_on_lem
-
     pub replacing_some : meant start ≡ meant before
         → ((t : ℕ) (place : Place) → (tally_of before).seat t ≡ Some place → place.mill ≡ mill → (m : ℕ) × (mill_for (meant before) (tally_of start).service place.program m ≡ true))
         → (m : ℕ) × (mill_for (meant table) (tally_of table).service place.program m ≡ true)
@@ -89,6 +86,3 @@ module _ (before start : Table) (mill n : ℕ) (table : Table) (so : Replacing b
     service = so.service;
     even = so.even;
   })
-
-  pub replacing_all : n ≡ 1024 → PlacedAgain (meant start) (tally_of before) (numbers (was_on before mill) 1024) (tally_of start) (tally_of table)
-  replacing_all whole = subst (λ k. PlacedAgain (meant start) (tally_of before) (numbers (was_on before mill) k) (tally_of start) (tally_of table)) whole so.so_far

@@ -9,6 +9,7 @@ use Rattle.table.specs.Held.{meant, tally_of}
 use Rattle.table.specs.Tally.{shop_in, placement}
 use Rattle.table.specs.declared.table.Table.{Table}
 use Rattle.board.specs.Reports.{mill_cost, flow_time, Reported}
+use Rattle.board.specs.declared.report.Report.{Report}
 use Rattle.board.proofs.Settling.{load_on}
 
 -- ---- the cost of a mill
@@ -39,29 +40,29 @@ cost_few n few =
 -- ---- the loop over mills
 
 -- what is told of the mills below n
-pub record Reporting (loads : ℕ → ℕ) (n highest busy flow : ℕ) : Type 0 where
-  pub highest_is : highest ≡ greatest_to n loads
-  pub busy_is : busy ≡ count_to n (λ m. ltb 0 (loads m))
-  pub flow_is : flow ≡ sum_to n (λ m. mill_cost (loads m))
-  pub small : flow ≤ n * 524800
+pub record Reporting (loads : ℕ → ℕ) (n : ℕ) (report : Report) : Type 0 where
+  pub highest_is : report.highest_load ≡ greatest_to n loads
+  pub busy_is : report.busy_mills ≡ count_to n (λ m. ltb 0 (loads m))
+  pub flow_is : report.flow_time ≡ sum_to n (λ m. mill_cost (loads m))
+  pub small : report.flow_time ≤ n * 524800
 
-pub reporting_none : (loads : ℕ → ℕ) → Reporting loads 0 0 0 0
+pub reporting_none : (loads : ℕ → ℕ) (report : Report) → report.highest_load ≡ 0 → report.busy_mills ≡ 0 → report.flow_time ≡ 0 → Reporting loads 0 report
 unfolding sum_to greatest_to
-reporting_none loads = record {
-  highest_is = refl;
-  busy_is = refl;
-  flow_is = refl;
+reporting_none loads report highest busy flow = record {
+  highest_is = highest;
+  busy_is = busy;
+  flow_is = flow;
   small = omega arith;
 }
 
-module _ (loads : ℕ → ℕ) (n highest busy flow : ℕ) (so : Reporting loads n highest busy flow) where
-  pub reporting_busy : busy ≤ n
+module _ (loads : ℕ → ℕ) (n : ℕ) (report : Report) (so : Reporting loads n report) where
+  pub reporting_busy : report.busy_mills ≤ n
   reporting_busy = omega (arith, so.busy_is, count_le n (λ m. ltb 0 (loads m)))
 
-  pub reporting_more : loads n ≤ 1024 → (here highest' busy' flow' : ℕ) → here ≡ loads n → highest' ≡ max highest here → busy' ≡ busy + cond (ltb 0 here) 1 0
-      → flow' ≡ flow + mill_cost here → Reporting loads (n + 1) highest' busy' flow'
+  pub reporting_more : loads n ≤ 1024 → (here : ℕ) (report' : Report) → here ≡ loads n → report'.highest_load ≡ max report.highest_load here
+      → report'.busy_mills ≡ report.busy_mills + cond (ltb 0 here) 1 0 → report'.flow_time ≡ report.flow_time + mill_cost here → Reporting loads (n + 1) report'
   unfolding sum_to greatest_to
-  reporting_more few here highest' busy' flow' is top more adds = record {
+  reporting_more few here report' is top more adds = record {
     highest_is = top ∙ (λ i. max (so.highest_is i) (is i)) ∙ ap (λ k. greatest_to k loads) (sym (add-one n));
     busy_is = more ∙ (λ i. so.busy_is i + cond (ltb 0 (is i)) 1 0) ∙ ap (λ k. count_to k (λ m. ltb 0 (loads m))) (sym (add-one n));
     flow_is = adds ∙ (λ i. so.flow_is i + mill_cost (is i)) ∙ ap (λ k. sum_to k (λ m. mill_cost (loads m))) (sym (add-one n));
@@ -70,9 +71,8 @@ module _ (loads : ℕ → ℕ) (n highest busy flow : ℕ) (so : Reporting loads
 
 -- ---- all mills
 
-pub reported : (table : Table) (n highest busy flow : ℕ) → Reporting (load_on table) n highest busy flow → n ≡ 64
-    → Reported (meant table) (tally_of table) (record { highest_load = highest; busy_mills = busy; flow_time = flow })
-reported table n highest busy flow so all =
+pub reported : (table : Table) (n : ℕ) (report : Report) → Reporting (load_on table) n report → n ≡ 64 → Reported (meant table) (tally_of table) report
+reported table n report so all =
     let shop = shop_in (meant table) (tally_of table) in
     let flows = so.flow_is ∙ ap (λ k. sum_to k (λ m. mill_cost (load_on table m))) all in
     record {

@@ -1,6 +1,6 @@
 -- Requests are performed in turn.
 use Rattle.std.proofs.Common.{◌≡◌, ℕ, ◌+◌, ◌<◌, ◌≤◌, List, [], ◌∷◌, ◌++◌, length, get_or, take, set, sym, refl, ap, ◌∙◌, subst, subst₂, arith}
-use Rattle.std.proofs.lemmas.List.{take_more, take_more_set, take_all, get_or-set_other, length-take, map-append}
+use Rattle.std.proofs.lemmas.List.{take_more, take_more_set, get_or-set_other, length-take, map-append}
 use Rattle.table.specs.Held.{meant, tally_of}
 use Rattle.table.specs.Tally.{opening}
 use Rattle.table.specs.declared.table.Table.{Table}
@@ -62,7 +62,3 @@ module _ (start : Table) (asked : List Request) (n : ℕ) (table : Table) (reque
       ran = subst₂ (λ from to. RanRequests (meant start) from to (tally_of after)) (sym asked_more) (sym answered_more) ran_request;
       rest = λ k e high. let ne : k ≡ n → ⊥ = λ same. omega arith in get_or-set_other requests n k r' e ne ∙ so.rest k e (omega arith);
     }
-
-  pub running_all : length asked ≤ n → RanRequests (meant start) asked requests (tally_of table)
-  running_all whole =
-      subst₂ (λ from to. RanRequests (meant start) from to (tally_of table)) (take_all n asked whole) (take_all n requests (omega arith)) so.ran

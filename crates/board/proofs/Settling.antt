@@ -7,7 +7,7 @@ use Rattle.table.specs.Held.{meant, tally_of}
 use Rattle.table.specs.Tally.{Tally, shop_in, placement}
 use Rattle.table.specs.declared.table.Table.{Table}
 use Rattle.table.proofs.TableLaws.{load_few}
-use Rattle.search.specs.Rules.{ShiftedByRule, NothingToShift, EvenIn, Leaning}
+use Rattle.search.specs.Rules.{ShiftedByRule, NothingToShift, Leaning}
 use Rattle.search.specs.Shifts.{Shift}
 use Rattle.board.specs.Rules.{Settled, none, more}
 use Rattle.board.proofs.FewMoves.{shop_shifted, placement_shifted}
@@ -21,13 +21,6 @@ pub record Settling (start : Table) (mill : ℕ) (table : Table) : Type 0 where
   pub meaning : meant table ≡ meant start
   pub so_far : (after : Tally) → Settled (meant start) mill (tally_of table) after → Settled (meant start) mill (tally_of start) after
   pub leans : Leaning (meant start) (tally_of start) mill → Leaning (meant table) (tally_of table) mill
-
-pub settling_start : (start : Table) (mill : ℕ) → Settling start mill start
-settling_start start mill = record {
-  meaning = λ i. meant start;
-  so_far = λ after rest. rest;
-  leans = λ lean. lean;
-}
 
 -- a chain raises the load of its last mill
 shifted_load : {meaning : Meaning} {before after : Tally} {mill : ℕ} → ShiftedByRule meaning before mill after
@@ -62,9 +55,3 @@ module _ (start : Table) (mill : ℕ) (table : Table) (so : Settling start mill 
         let still = step.nothing is in
         subst (Settled (meant start) mill (tally_of start)) (sym still.0)
         (so.so_far (tally_of table) (none (subst (λ meaning. NothingToShift meaning (tally_of table) mill) so.meaning still.1)))
-
-    pub settled_meaning : meant after ≡ meant start
-    settled_meaning = step.meaning ∙ so.meaning
-
-    pub settled_even : Leaning (meant start) (tally_of start) mill → EvenIn (meant after) (tally_of after)
-    settled_even lean = step.settles is (so.leans lean)

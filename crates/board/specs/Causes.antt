@@ -1,5 +1,5 @@
 -- Why a call is sent back: the causes, for its arguments, the length of its move list and the tally before it.
-use Rattle.std.specs.Prelude.{◌≡◌, ℕ, ◌<◌, ◌≤◌, true, false, is_some, Some}
+use Rattle.std.specs.Prelude.{◌≡◌, ℕ, ◌<◌, ◌≤◌, true, false, is_some, Some, Ok, Err, Result}
 use Rattle.vocabulary.specs.Told.{told}
 use Rattle.vocabulary.specs.declared.numbers.Mill.{Mill}
 use Rattle.vocabulary.specs.declared.numbers.Program.{Program}
@@ -49,3 +49,13 @@ Acceptable meaning tally call = (room : ℕ) × Accepted meaning tally room call
 pub record Refused (meaning : Meaning) (tally : Tally) (room : ℕ) (call : Call) (refusal : Refusal) : Type 0 where
   pub cause : Cause meaning tally room call refusal
   pub first : (other : Refusal) → Cause meaning tally room call other → (told refusal).number ≤ (told other).number
+
+-- a call with a move list of so many entries, judged: accepted, or refused with a cause
+abbrev pub Judged : Meaning → Tally → ℕ → Call → Result (Unit {0}) Refusal → Type 0
+Judged meaning tally room call (Ok accepted) = Accepted meaning tally room call
+Judged meaning tally room call (Err refusal) = Refused meaning tally room call refusal
+
+-- a call, judged by all but its move list: it may be accepted, or is refused with that cause whatever the list
+abbrev pub JudgedForAnyList : Meaning → Tally → Call → Result (Unit {0}) Refusal → Type 0
+JudgedForAnyList meaning tally call (Ok accepted) = Acceptable meaning tally call
+JudgedForAnyList meaning tally call (Err refusal) = (room : ℕ) → Refused meaning tally room call refusal

@@ -8,7 +8,7 @@ ghost use Rattle.board.specs.Outcomes.{Outcome};
 use crate::call::{Answer, Call};
 use crate::moves::Move;
 use crate::records::write_records;
-use crate::refusals::refusal_of;
+use crate::refusals::check_call;
 use crate::rules::carry_out;
 use table::Table;
 use vocabulary::{Mill, Refusal};
@@ -19,9 +19,7 @@ pub(crate) fn perform(table: &mut Table, call: Call, moves: &mut [Move]) -> Resu
     ensures meaning { meant table.new ≡ meant table.old }
     ensures outcome { Outcome (meant table.old) call (tally_of table.old) (tally_of table.new) result moves.old moves.new }
 {
-    if let Some(refusal) = refusal_of(table, call, moves.len()) {
-        return Err(refusal);
-    }
+    check_call(table, call, moves.len())?;
     let before = *table;
     let told = carry_out(table, call);
     let count = write_records(&before, table, moves);
@@ -33,8 +31,8 @@ fn answer_of(told: Option<Mill>, count: u16) -> Answer
     ensures told { mill_told result ≡ told }
     ensures count { count_in result ≡ count }
 {
-    match told {
-        Some(mill) => Answer::Added { mill, count },
-        None => Answer::Moved { count },
-    }
+    told.map_or(
+        Answer::Moved { count },
+        |mill| Answer::Added { mill, count },
+    )
 }

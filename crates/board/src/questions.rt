@@ -27,8 +27,7 @@ impl<S> Board<S> {
     pub fn where_is(&self, ticket: Ticket) -> Option<Mill>
         ensures { option_map (λ mill. mill.0) result ≡ placement (tally_on self.now) ticket.0 }
     {
-        let seat = self.table.seat(ticket)?;
-        Some(seat.mill)
+        self.table.seat(ticket).map(|seat| seat.mill)
     }
 
     /// The number of tickets on a mill.
@@ -50,22 +49,16 @@ impl<S> Board<S> {
 fn report_on(table: &Table) -> Report
     ensures { Reported (meant table.now) (tally_of table.now) result }
 {
-    let mut highest_load: u16 = 0;
-    let mut busy_mills = 0;
-    let mut flow_time = 0;
+    let mut report = Report::default();
     for mill in 0..MILLS {
         let load = table.load(Mill(mill));
-        highest_load = highest_load.max(load);
-        flow_time += cost(load);
+        report.highest_load = report.highest_load.max(load);
+        report.flow_time += cost(load);
         if load > 0 {
-            busy_mills += 1;
+            report.busy_mills += 1;
         }
     }
-    Report {
-        highest_load,
-        busy_mills,
-        flow_time,
-    }
+    report
 }
 
 /// What a mill of a load costs.

@@ -17,6 +17,7 @@ pub(crate) fn write_records(before: &Table, after: &Table, list: &mut [Move]) ->
     ensures written { list.new ≡ records_of (tally_of before.now) (tally_of after.now) ++ drop (length (records_of (tally_of before.now) (tally_of after.now))) list.old }
     ensures count { result ≡ length (records_of (tally_of before.now) (tally_of after.now)) }
 {
+    // One number is both the answer and the place of the next record.
     let mut count = 0;
     for number in 0..TICKETS {
         let ticket = Ticket(number);

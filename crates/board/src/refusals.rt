@@ -1,114 +1,134 @@
 //! Whether a call is sent back, and why.
-ghost use Rattle.std.specs.Prelude.{◌≡◌, ℕ, ◌<◌, ◌≤◌, true, false, MatchOption};
-ghost use Rattle.vocabulary.specs.declared.refusal.Refusal.TheVariants.{ShortList};
+ghost use Rattle.std.specs.Prelude.{◌≡◌, ℕ, ◌<◌, ◌≤◌, ◌↔◌, IsTrue, MatchOption, MatchResult, true};
+ghost use Rattle.vocabulary.specs.declared.refusal.Refusal.TheVariants.{NoSuchTicket, NoSuchMill, ShortList};
 ghost use Rattle.board.specs.declared.call.Call.TheVariants.{Add, Done, Withdraw, Return};
 ghost use Rattle.table.specs.Held.{meant, tally_of};
-ghost use Rattle.table.specs.Tally.{standing};
-ghost use Rattle.board.specs.Causes.{Accepted, Refused, Strands};
+ghost use Rattle.table.specs.Tally.{mill_for, standing};
+ghost use Rattle.board.specs.Causes.{Judged, JudgedForAnyList, Strands};
 
 use crate::call::{Call, TICKETS};
 use table::Table;
 use vocabulary::{Mill, Program, Refusal, Ticket};
 
-/// Why a call with a move list of so many entries is sent back; nothing where it is accepted.
-pub(crate) fn refusal_of(table: &Table, call: Call, room: usize) -> Option<Refusal>
-    ensures { MatchOption result (Accepted (meant table.now) (tally_of table.now) room call) (Refused (meant table.now) (tally_of table.now) room call) }
+/// Whether a call with a move list of so many entries is accepted, or else why it is sent back.
+pub(crate) fn check_call(table: &Table, call: Call, room: usize) -> Result<(), Refusal>
+    ensures { Judged (meant table.now) (tally_of table.now) room call result }
+{
+    check_arguments(table, call)?;
+    check_room(table, room)
+}
+
+/// Every cause but the length of the move list, which is looked at last.
+fn check_arguments(table: &Table, call: Call) -> Result<(), Refusal>
+    ensures { JudgedForAnyList (meant table.now) (tally_of table.now) call result }
 {
     match call {
-        Call::Add { ticket, program } => of_add(table, ticket, program, room),
-        Call::Done { ticket } => of_done(table, ticket, room),
-        Call::Withdraw { mill } => of_withdraw(table, mill, room),
-        Call::Return { mill } => of_return(table, mill, room),
+        Call::Add { ticket, program } => check_add(table, ticket, program),
+        Call::Done { ticket } => check_done(table, ticket),
+        Call::Withdraw { mill } => check_withdraw(table, mill),
+        Call::Return { mill } => check_return(table, mill),
     }
 }
 
 /// The move list must have room for every standing ticket.
-fn of_list(table: &Table, room: usize) -> Option<Refusal>
-    ensures { MatchOption result (standing (tally_of table.now) ≤ room) (λ e. (room < standing (tally_of table.now)) × (e ≡ ShortList (standing (tally_of table.now)))) }
+fn check_room(table: &Table, room: usize) -> Result<(), Refusal>
+    ensures { MatchResult result (λ _. standing (tally_of table.now) ≤ room) (λ e. (room < standing (tally_of table.now)) × (e ≡ ShortList (standing (tally_of table.now)))) }
 {
     let standing = table.standing();
     if room < usize::from(standing) {
-        Some(Refusal::ShortList { standing })
-    } else {
-        None
+        return Err(Refusal::ShortList { standing });
     }
+    Ok(())
 }
 
-fn of_add(table: &Table, ticket: Ticket, program: Program, room: usize) -> Option<Refusal>
-    ensures { MatchOption result (Accepted (meant table.now) (tally_of table.now) room (Add ticket program)) (Refused (meant table.now) (tally_of table.now) room (Add ticket program)) }
+fn check_add(table: &Table, ticket: Ticket, program: Program) -> Result<(), Refusal>
+    ensures { JudgedForAnyList (meant table.now) (tally_of table.now) (Add ticket program) result }
+{
+    check_ticket(ticket)?;
+    if table.seat(ticket).is_some() {
+        return Err(Refusal::Standing { ticket });
+    }
+    if table.mills_for(program).is_empty() {
+        return Err(Refusal::NoAbleMill { ticket });
+    }
+    Ok(())
+}
+
+fn check_done(table: &Table, ticket: Ticket) -> Result<(), Refusal>
+    ensures { JudgedForAnyList (meant table.now) (tally_of table.now) (Done ticket) result }
+{
+    check_ticket(ticket)?;
+    if table.seat(ticket).is_none() {
+        return Err(Refusal::NotStanding { ticket });
+    }
+    Ok(())
+}
+
+fn check_withdraw(table: &Table, mill: Mill) -> Result<(), Refusal>
+    ensures { JudgedForAnyList (meant table.now) (tally_of table.now) (Withdraw mill) result }
+{
+    check_mill(table, mill)?;
+    if !table.service().contains(mill.0) {
+        return Err(Refusal::SameService { mill });
+    }
+    if let Some(ticket) = lowest_stranded(table, mill) {
+        return Err(Refusal::Stranded { ticket });
+    }
+    Ok(())
+}
+
+fn check_return(table: &Table, mill: Mill) -> Result<(), Refusal>
+    ensures { JudgedForAnyList (meant table.now) (tally_of table.now) (Return mill) result }
+{
+    check_mill(table, mill)?;
+    if table.service().contains(mill.0) {
+        return Err(Refusal::SameService { mill });
+    }
+    Ok(())
+}
+
+/// There are tickets only up to a number.
+fn check_ticket(ticket: Ticket) -> Result<(), Refusal>
+    ensures { MatchResult result (λ _. ticket.0 < 1024) (λ e. (1024 ≤ ticket.0) × (e ≡ NoSuchTicket ticket)) }
 {
     if ticket.0 >= TICKETS {
-        Some(Refusal::NoSuchTicket { ticket })
-    } else if table.seat(ticket).is_some() {
-        Some(Refusal::Standing { ticket })
-    } else if table.mills_for(program).is_empty() {
-        Some(Refusal::NoAbleMill { ticket })
-    } else {
-        of_list(table, room)
+        return Err(Refusal::NoSuchTicket { ticket });
     }
+    Ok(())
 }
 
-fn of_done(table: &Table, ticket: Ticket, room: usize) -> Option<Refusal>
-    ensures { MatchOption result (Accepted (meant table.now) (tally_of table.now) room (Done ticket)) (Refused (meant table.now) (tally_of table.now) room (Done ticket)) }
-{
-    if ticket.0 >= TICKETS {
-        Some(Refusal::NoSuchTicket { ticket })
-    } else if table.seat(ticket).is_none() {
-        Some(Refusal::NotStanding { ticket })
-    } else {
-        of_list(table, room)
-    }
-}
-
-fn of_withdraw(table: &Table, mill: Mill, room: usize) -> Option<Refusal>
-    ensures { MatchOption result (Accepted (meant table.now) (tally_of table.now) room (Withdraw mill)) (Refused (meant table.now) (tally_of table.now) room (Withdraw mill)) }
+/// A shop has only so many mills.
+fn check_mill(table: &Table, mill: Mill) -> Result<(), Refusal>
+    ensures { MatchResult result (λ _. mill.0 < (meant table.now).mills) (λ e. ((meant table.now).mills ≤ mill.0) × (e ≡ NoSuchMill mill)) }
 {
     if mill.0 >= table.mills() {
-        Some(Refusal::NoSuchMill { mill })
-    } else if !table.service().contains(mill.0) {
-        Some(Refusal::SameService { mill })
-    } else if let Some(ticket) = lowest_stranded(table, mill) {
-        Some(Refusal::Stranded { ticket })
-    } else {
-        of_list(table, room)
+        return Err(Refusal::NoSuchMill { mill });
     }
-}
-
-fn of_return(table: &Table, mill: Mill, room: usize) -> Option<Refusal>
-    ensures { MatchOption result (Accepted (meant table.now) (tally_of table.now) room (Return mill)) (Refused (meant table.now) (tally_of table.now) room (Return mill)) }
-{
-    if mill.0 >= table.mills() {
-        Some(Refusal::NoSuchMill { mill })
-    } else if table.service().contains(mill.0) {
-        Some(Refusal::SameService { mill })
-    } else {
-        of_list(table, room)
-    }
+    Ok(())
 }
 
 /// The lowest ticket of a mill that may stand on no other.
 fn lowest_stranded(table: &Table, mill: Mill) -> Option<Ticket>
     ensures { MatchOption result ((k : ℕ) → Strands (meant table.now) (tally_of table.now) mill.0 k → ⊥) (λ t. Strands (meant table.now) (tally_of table.now) mill.0 t.0 × ((k : ℕ) → k < t.0 → Strands (meant table.now) (tally_of table.now) mill.0 k → ⊥)) }
 {
-    for number in 0..TICKETS {
-        if is_stranded(table, mill, Ticket(number)) {
-            return Some(Ticket(number));
-        }
-    }
-    None
+    (0..TICKETS)
+        .find(|&number| is_stranded(table, mill, Ticket(number)))
+        .map(Ticket)
 }
 
 /// Whether a ticket stands on a mill and may stand on no other.
 fn is_stranded(table: &Table, mill: Mill, ticket: Ticket) -> bool
-    ensures yes { result ≡ true → Strands (meant table.now) (tally_of table.now) mill.0 ticket.0 }
-    ensures not { result ≡ false → Strands (meant table.now) (tally_of table.now) mill.0 ticket.0 → ⊥ }
+    ensures { IsTrue result ↔ Strands (meant table.now) (tally_of table.now) mill.0 ticket.0 }
 {
-    match table.seat(ticket) {
-        Some(seat) => {
-            let mut others = table.mills_for(seat.program);
-            others.remove(mill.0);
-            seat.mill.0 == mill.0 && others.is_empty()
-        }
-        None => false,
-    }
+    table.seat(ticket).is_some_and(|seat| seat.mill == mill
+        && is_only_mill(table, mill, seat.program))
+}
+
+/// Whether no other mill in service is able for a program.
+fn is_only_mill(table: &Table, mill: Mill, program: Program) -> bool
+    ensures { IsTrue result ↔ ((m : ℕ) → mill_for (meant table.now) (tally_of table.now).service program.0 m ≡ true → m ≡ mill.0) }
+{
+    let mut others = table.mills_for(program);
+    others.remove(mill.0);
+    others.is_empty()
 }

@@ -1,7 +1,7 @@
 //! What a board reports.
 
 /// The load of a board as a whole.
-#[derive(Clone, Copy, PartialEq, Eq, Debug)]
+#[derive(Clone, Copy, Default, PartialEq, Eq, Debug)]
 pub struct Report {
     /// The greatest number of tickets on one mill; 0 where no ticket stands.
     pub highest_load: u16,

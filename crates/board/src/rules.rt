@@ -15,6 +15,8 @@ use search::{place, shift};
 use table::Table;
 use vocabulary::{Mill, Ticket};
 
+// That a call may be accepted, and that the meaning stays, are facts of two values, so they are clauses and no type's invariant.
+
 /// Does what an accepted call asks for, and tells the mill of an added ticket.
 pub(crate) fn carry_out(table: &mut Table, call: Call) -> Option<Mill>
     requires { Acceptable (meant table.old) (tally_of table.old) call }
@@ -54,10 +56,7 @@ fn withdraw_mill(table: &mut Table, mill: Mill)
 fn stands_on(table: &Table, ticket: Ticket, mill: Mill) -> bool
     ensures { result ≡ stands_on (placement (tally_of table.now) ticket.0) mill.0 }
 {
-    match table.seat(ticket) {
-        Some(seat) => seat.mill.0 == mill.0,
-        None => false,
-    }
+    table.seat(ticket).is_some_and(|seat| seat.mill == mill)
 }
 
 /// The tickets of a mill come off.
@@ -83,7 +82,7 @@ fn place_again(table: &mut Table, before: &Table, mill: Mill)
 {
     for number in 0..TICKETS {
         if let Some(seat) = before.seat(Ticket(number)) {
-            if seat.mill.0 == mill.0 {
+            if seat.mill == mill {
                 place(table, Ticket(number), seat.program);
             }
         }

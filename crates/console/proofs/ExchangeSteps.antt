@@ -1,15 +1,13 @@
 -- Lines are answered in turn.
-use Rattle.std.proofs.Common.{◌≡◌, ℕ, ◌+◌, ◌<◌, ◌≤◌, Bool, true, false, cond, ltb, List, [], ◌∷◌, ◌++◌, length, get_or, take, set, vec_items, Result, sym, refl, ap, ◌∙◌, subst, subst₂, ⊎_elim, arith}
-use Rattle.std.proofs.lemmas.List.{append-nil, take_more, take_more_set, take_all, get_or-set_other}
+use Rattle.std.proofs.Common.{◌≡◌, ℕ, ◌+◌, ◌<◌, ◌≤◌, Bool, true, false, cond, ltb, List, [], ◌∷◌, ◌++◌, length, get_or, take, set, vec_items, sym, refl, ap, ◌∙◌, subst, subst₂, ⊎_elim, arith}
+use Rattle.std.proofs.lemmas.List.{append-nil, take_more, take_more_set, get_or-set_other}
 use Rattle.std.proofs.lemmas.Bool.{cases_lt, cond-true, cond-false, lt-ltb, le-ltb}
-use Rattle.vocabulary.specs.declared.refusal.Refusal.{Refusal}
 use Rattle.capability.specs.Meaning.{Meaning}
-use Rattle.console.specs.Answers.{Answered}
 use Rattle.console.specs.Exchanges.{Exchanged, ExchangesBy, line_read, lines_read, RanExchanges}
 use Rattle.console.specs.Runs.{RanLines}
 use Rattle.console.specs.States.{State, fresh}
 use Rattle.console.specs.declared.exchange.Exchange.{Exchange}
-use Rattle.console.proofs.LineRuns.{lines_none, lines_more}
+use Rattle.console.proofs.LineRuns.{lines_more}
 
 -- ---- one exchange more
 
@@ -55,12 +53,6 @@ pub record Exchanging (source : Meaning) (lent : List Exchange) (n : ℕ) (state
   pub ran : RanExchanges source (take n lent) (take n exchanges) state
   pub rest : (k : ℕ) (d : Exchange) → n ≤ k → get_or exchanges k d ≡ get_or lent k d
 
-pub exchanging_start : (source : Meaning) (lent : List Exchange) (state : State) → state ≡ fresh → Exchanging source lent 0 state lent
-exchanging_start source lent state begins = record {
-  ran = subst (RanExchanges source [] []) (sym begins) (record { each = refl; lines = lines_none source });
-  rest = λ k d high. refl;
-}
-
 module _ (source : Meaning) (lent : List Exchange) (n : ℕ) (state : State) (exchanges : List Exchange) (so : Exchanging source lent n state exchanges) (long : length exchanges ≡ length lent) where
   pub exchanging_more : n < length lent → (d r' : Exchange) (after : State) → Exchanged source state (get_or exchanges n d) r' after → Exchanging source lent (n + 1) after (set exchanges n r')
   exchanging_more low d r' after one = record {
@@ -70,14 +62,3 @@ module _ (source : Meaning) (lent : List Exchange) (n : ℕ) (state : State) (ex
         (ran_push source (take n lent) (take n exchanges) state (get_or exchanges n d) r' after so.ran one);
     rest = λ k e high. let ne : k ≡ n → ⊥ = λ same. omega arith in get_or-set_other exchanges n k r' e ne ∙ so.rest k e (omega arith);
   }
-
-  pub exchanging_all : length lent ≤ n → RanExchanges source lent exchanges state
-  exchanging_all whole = subst₂ (λ from to. RanExchanges source from to state) (take_all n lent whole) (take_all n exchanges (omega arith)) so.ran
-
--- ---- equal lines and areas
-
-pub answered_same : (source : Meaning) (before : State) (line line' lent lent' : List ℕ) (after : State) (answer : Result ℕ Refusal) (area area' : List ℕ) → line' ≡ line → lent' ≡ lent → area' ≡ area
-    → Answered source before line' lent' after answer area' → Answered source before line lent after answer area
-answered_same source before line line' lent lent' after answer area area' lines lents areas done =
-    subst (λ l. Answered source before l lent after answer area) lines
-    (subst (λ l. Answered source before line' l after answer area) lents (subst (λ a. Answered source before line' lent' after answer a) areas done))

@@ -1,5 +1,5 @@
 -- A reply tells no more moves than there are tickets.
-use Rattle.std.proofs.Common.{ℕ, ◌≤◌, List, Some, None, Ok, Err, Option, Result, sym, subst, arith}
+use Rattle.std.proofs.Common.{ℕ, ◌≤◌, List, Some, None, Ok, Err, Option, Result, sym, subst, arith, ◌≡◌, MatchResult}
 use Rattle.vocabulary.specs.declared.numbers.Ticket.{Ticket}
 use Rattle.vocabulary.specs.declared.refusal.Refusal.{Refusal}
 use Rattle.capability.specs.Meaning.{Meaning}
@@ -22,7 +22,7 @@ use Rattle.wire.specs.declared.command.BoardCommand.TheVariants.{Perform, Where,
 use Rattle.wire.specs.declared.command.SetupCommand.{SetupCommand}
 use Rattle.wire.specs.declared.command.SetupCommand.TheVariants.{Strike, Alias, Board}
 use Rattle.wire.specs.declared.reply.Reply.{Reply}
-use Rattle.console.specs.Commands.{call_reply, where_reply, CommandBy, LineRefused, LineServed, StruckBy, AliasedBy, OpenLine, SetupLine, LineAt, LineBy}
+use Rattle.console.specs.Commands.{call_reply, where_reply, replied, CommandBy, LineRefused, LineServed, StruckBy, AliasedBy, OpenLine, SetupLine, LineAt, LineBy}
 use Rattle.console.specs.States.{Opened, State}
 
 abbrev Few : Reply → Type 0
@@ -72,3 +72,8 @@ line_few source state None line after reply list list' done = setup_few source s
 
 pub reply_few : (source : Meaning) (state : State) (line : List ℕ) (after : State) (reply : Reply) (list list' : List Move) → LineBy source state line after reply list list' → moves_told reply ≤ 1024
 reply_few source state = line_few source state state.board
+
+-- a refusal is replied as one
+pub replied_is : (done : Result Reply Refusal) (reply : Reply) → MatchResult done (λ r. reply ≡ r) (λ refusal. reply ≡ Reply.Refused refusal) → reply ≡ replied done
+replied_is (Ok r) reply is = is
+replied_is (Err refusal) reply is = is

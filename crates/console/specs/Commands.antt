@@ -30,6 +30,11 @@ abbrev pub call_reply : Call → Result Answer Refusal → Reply
 call_reply call (Ok answer) = Reply.Called call answer
 call_reply call (Err refusal) = Reply.Refused refusal
 
+-- the reply to a command that was done, or to one that is refused
+abbrev pub replied : Result Reply Refusal → Reply
+replied (Ok reply) = reply
+replied (Err refusal) = Reply.Refused refusal
+
 -- the mill that a ticket stands on, or that it does not stand
 abbrev pub where_reply : Ticket → Option ℕ → Reply
 where_reply ticket (Some mill) = Reply.Stands (record { 0 = mill })

@@ -8,18 +8,11 @@ use crate::lines::obey_line;
 use board::Move;
 use capability::Source;
 use layers::{Aliases, Strikes};
-use vocabulary::{Mill, Refusal, Ticket};
-use wire::{AREA, put_reply};
+use vocabulary::Refusal;
+use wire::{AREA, Reply, put_reply};
 
 /// As many tickets as there can be, so that every call has room for its records.
 const TICKETS: usize = 1024;
-
-/// What stands in a move list before a call.
-const BLANK: Move = Move {
-    ticket: Ticket(0),
-    from: Mill(0),
-    to: Mill(0),
-};
 
 impl<S: Source> Console<S> {
     /// A console over a source that nothing was asked of.
@@ -52,8 +45,9 @@ fn answer_into<S: Source>(console: Console<S>, line: &[u8], area: &mut [u8]) -> 
     ensures below { below result.0 ≡ below console }
     ensures written { Written (S.Source.meaning (below console)) (state_of console) line.now area.old (state_of result.0) (Ok result.1) area.new }
 {
-    let mut moves = [BLANK; TICKETS];
-    let (console, reply) = obey_line(console, line, &mut moves);
+    let mut moves = [Move::default(); TICKETS];
+    let (console, done) = obey_line(console, line, &mut moves);
+    let reply = done.unwrap_or_else(Reply::from);
     let length = put_reply(area, reply, &moves);
     (console, length)
 }

@@ -3,6 +3,8 @@ ghost use Rattle.std.specs.Prelude.{◌≡◌, Ok};
 
 use vocabulary::Refusal;
 
+// A board's request has a call and a move list where this has a line and an area, so the two share no field's type.
+
 /// One line of a run, the text area that is lent for its answer, and a place for the length of the answer.
 #[derive(Drop)]
 pub struct Exchange {

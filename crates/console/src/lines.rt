@@ -1,12 +1,11 @@
 //! What a line does to a console, in each of its stages.
-ghost use Rattle.std.specs.Prelude.{◌≡◌, [], MatchResult};
+ghost use Rattle.std.specs.Prelude.{◌≡◌};
 ghost use Rattle.layers.specs.Held.{held};
 ghost use Rattle.table.specs.Tally.{opening};
 ghost use Rattle.board.specs.Boards.{meant_by, tally_on};
 ghost use Rattle.wire.specs.Commands.{board_command_in, setup_command_in};
-ghost use Rattle.wire.specs.declared.reply.Reply.TheVariants as Reply;
 ghost use Rattle.console.specs.States.{state_of, below, pile_meaning};
-ghost use Rattle.console.specs.Commands.{LineServed, OpenLine, SetupLine, LineBy};
+ghost use Rattle.console.specs.Commands.{LineServed, OpenLine, SetupLine, LineBy, replied};
 ghost use Rattle.console.specs.declared.console.Console.TheVariants.{Setup, Open};
 
 use crate::console::Console;
@@ -17,18 +16,24 @@ use layers::{Aliases, Strikes};
 use vocabulary::Refusal;
 use wire::{BoardCommand, Reply, SetupCommand, board_command, setup_command};
 
-/// Does what a line asks of a console, and tells the reply.
+// A console goes in and out by value, since the layers move into the board that is opened on them. That the source below stays is a fact
+// of the console before and the one after, so it is a clause and no invariant.
+
+/// Does what a line asks of a console, and tells the reply, or why the line is refused.
 pub(crate) fn obey_line<S: Source>(
     console: Console<S>,
     line: &[u8],
     moves: &mut [Move],
-) -> (Console<S>, Reply)
+) -> (Console<S>, Result<Reply, Refusal>)
     ensures below { below result.0 ≡ below console }
-    ensures line { LineBy (S.Source.meaning (below console)) (state_of console) line.now (state_of result.0) result.1 moves.old moves.new }
+    ensures line { LineBy (S.Source.meaning (below console)) (state_of console) line.now (state_of result.0) (replied result.1) moves.old moves.new }
 {
     match console {
         Console::Setup { pile } => set_up(pile, line, moves),
-        Console::Open { board } => serve(board, line, moves),
+        Console::Open { mut board } => {
+            let reply = serve(&mut board, line, moves);
+            (Console::Open { board }, reply)
+        }
     }
 }
 
@@ -37,31 +42,21 @@ fn set_up<S: Source>(
     mut pile: Strikes<Aliases<S>>,
     line: &[u8],
     moves: &mut [Move],
-) -> (Console<S>, Reply)
+) -> (Console<S>, Result<Reply, Refusal>)
     ensures below { below result.0 ≡ pile.source.source }
-    ensures line { SetupLine (S.Source.meaning pile.source.source) (state_of (Setup pile)) (setup_command_in line.now) (state_of result.0) result.1 moves.old moves.new }
+    ensures line { SetupLine (S.Source.meaning pile.source.source) (state_of (Setup pile)) (setup_command_in line.now) (state_of result.0) (replied result.1) moves.old moves.new }
 {
     match setup_command(line) {
         Ok(SetupCommand::Strike { program, mill }) => {
-            let reply = entered(pile.strike(program, mill), Reply::Struck);
+            let reply = pile.strike(program, mill).map(|()| Reply::Struck);
             (Console::Setup { pile }, reply)
         }
         Ok(SetupCommand::Alias { program, cut_as }) => {
-            let reply = entered(pile.alias(program, cut_as), Reply::Aliased);
+            let reply = pile.alias(program, cut_as).map(|()| Reply::Aliased);
             (Console::Setup { pile }, reply)
         }
         Ok(SetupCommand::Board { command }) => open_with(pile, command, moves),
-        Err(refusal) => (Console::Setup { pile }, Reply::Refused { refusal }),
-    }
-}
-
-/// The reply to an entry of a layer that was taken, or its refusal.
-fn entered(taken: Result<(), Refusal>, reply: Reply) -> Reply
-    ensures { MatchResult taken (λ _. result ≡ reply) (λ e. result ≡ Reply.Refused e) }
-{
-    match taken {
-        Ok(()) => reply,
-        Err(refusal) => Reply::Refused { refusal },
+        Err(refusal) => (Console::Setup { pile }, Err(refusal)),
     }
 }
 
@@ -70,9 +65,9 @@ fn open_with<S: Source>(
     pile: Strikes<Aliases<S>>,
     command: BoardCommand,
     moves: &mut [Move],
-) -> (Console<S>, Reply)
+) -> (Console<S>, Result<Reply, Refusal>)
     ensures below { below result.0 ≡ pile.source.source }
-    ensures served { LineServed (state_of (Setup pile)) (record { meaning = pile_meaning (S.Source.meaning pile.source.source) (held pile.table) (held pile.source.table); tally = opening (pile_meaning (S.Source.meaning pile.source.source) (held pile.table) (held pile.source.table)) }) command (state_of result.0) result.1 moves.old moves.new }
+    ensures served { LineServed (state_of (Setup pile)) (record { meaning = pile_meaning (S.Source.meaning pile.source.source) (held pile.table) (held pile.source.table); tally = opening (pile_meaning (S.Source.meaning pile.source.source) (held pile.table) (held pile.source.table)) }) command (state_of result.0) (replied result.1) moves.old moves.new }
 {
     let mut board = Board::open(pile);
     let reply = obey(&mut board, command, moves);
@@ -81,18 +76,13 @@ fn open_with<S: Source>(
 
 /// A line to a console whose board is open.
 fn serve<S>(
-    mut board: Board<Strikes<Aliases<S>>>,
+    board: &mut Board<Strikes<Aliases<S>>>,
     line: &[u8],
     moves: &mut [Move],
-) -> (Console<S>, Reply)
-    ensures below { below result.0 ≡ board.source.source.source }
-    ensures line { OpenLine (state_of (Open board)) (record { meaning = meant_by board; tally = tally_on board }) (board_command_in line.now) (state_of result.0) result.1 moves.old moves.new }
+) -> Result<Reply, Refusal>
+    ensures source { board.new.source ≡ board.old.source }
+    ensures line { OpenLine (state_of (Open board.old)) (record { meaning = meant_by board.old; tally = tally_on board.old }) (board_command_in line.now) (state_of (Open board.new)) (replied result) moves.old moves.new }
 {
-    match board_command(line) {
-        Ok(command) => {
-            let reply = obey(&mut board, command, moves);
-            (Console::Open { board }, reply)
-        }
-        Err(refusal) => (Console::Open { board }, Reply::Refused { refusal }),
-    }
+    let command = board_command(line)?;
+    obey(board, command, moves)
 }

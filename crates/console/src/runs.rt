@@ -16,12 +16,11 @@ pub fn answer_lines<S: Source>(source: S, exchanges: &mut [Exchange]) -> Console
 }
 
 /// Answers lines in turn.
-fn answer_each<S: Source>(console: Console<S>, exchanges: &mut [Exchange]) -> Console<S>
+fn answer_each<S: Source>(mut console: Console<S>, exchanges: &mut [Exchange]) -> Console<S>
     requires { state_of console ≡ fresh }
     ensures below { below result ≡ below console }
     ensures ran { RanExchanges (S.Source.meaning (below console)) exchanges.old exchanges.new (state_of result) }
 {
-    let mut console = console;
     for exchange in exchanges.iter_mut() {
         console = answer_exchange(console, exchange);
     }

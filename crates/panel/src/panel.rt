@@ -44,7 +44,7 @@ fn answer<S: Source + Drop>(
 ) -> io::Result<Console<S>> {
     let (console, length) = console.answer(line, area);
     match length {
-        Ok(length) => write_front(rt, area, length)?,
+        Ok(length) => write_out(rt, &area[..length])?,
         Err(refusal) => refuse(rt, refusal)?,
     }
     Ok(console)
@@ -53,15 +53,13 @@ fn answer<S: Source + Drop>(
 /// Writes the line of a refusal.
 fn refuse(rt: &HostRuntime, refusal: Refusal) -> io::Result<()> {
     let mut area = vec![in rt.alloc(); 0u8; AREA]?;
-    let length = put_reply(area.as_mut_slice(), Reply::Refused { refusal }, &[]);
-    write_front(rt, area.as_slice(), length)
+    let length = put_reply(area.as_mut_slice(), Reply::from(refusal), &[]);
+    write_out(rt, &area.as_slice()[..length])
 }
 
-/// Writes the front of an area to standard output.
-fn write_front(rt: &HostRuntime, area: &[u8], length: usize) -> io::Result<()> {
+/// Writes to standard output at once.
+fn write_out(rt: &HostRuntime, text: &[u8]) -> io::Result<()> {
     let mut out = rt.stdout();
-    if let Some(front) = area.get(0..length) {
-        out.write_all(front)?;
-    }
+    out.write_all(text)?;
     out.flush()
 }

@@ -15,11 +15,8 @@ pub fn sheet_text(rt: &HostRuntime) -> io::Result<Vec<u8>> {
         Ok(file) => {
             file.take(MOST).read_to_end(&mut text)?;
         }
-        Err(e) => {
-            if e.kind() != io::ErrorKind::NotFound {
-                return Err(e);
-            }
-        }
+        Err(e) if e.kind() == io::ErrorKind::NotFound => {}
+        Err(e) => return Err(e),
     }
     Ok(text)
 }

@@ -6,9 +6,6 @@ use Rattle.board.proofs.records.write_records.Goals.{in-Some, in_default}
 pub loop-number-init : goal.loop-number-init
 loop-number-init c = written_none _ _ c.args.list.now
 
-pub offset_bounds-list-from : goal.offset_bounds-list-from
-offset_bounds-list-from c = omega (arith, written_few _ _ _ _ _ _ c.loop-number.invariant (omega arith))
-
 pub bounds-list-from : goal.bounds-list-from
 bounds-list-from c =
     omega (

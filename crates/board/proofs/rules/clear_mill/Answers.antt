@@ -1,11 +1,8 @@
-use Rattle.std.proofs.Common.{sym, ap, ◌∙◌, arith}
+use Rattle.std.proofs.Common.{sym, ap, ◌∙◌}
 use Rattle.table.specs.Held.{meant, tally_of}
-use Rattle.board.proofs.Clearing.{clearing_start, clearing_off, clearing_stays, clearing_all}
+use Rattle.board.proofs.Clearing.{clearing_off, clearing_stays}
 use Rattle.board.proofs.rules.clear_mill.Goals as goal
 use Rattle.board.proofs.rules.clear_mill.Goals.{then-stands_on, else-stands_on}
-
-pub loop-number-init : goal.loop-number-init
-loop-number-init c = clearing_start c.args.table.now c.args.mill.0
 
 pub loop-number-preserved : goal.loop-number-preserved
 loop-number-preserved c =
@@ -15,9 +12,3 @@ loop-number-preserved c =
           (ap tally_of w.table-is ∙ w.take.ensures.tally)
       | else-stands_on w ↦ clearing_stays _ _ _ _ c.loop-number.invariant _ (sym w.if-stands_on.ensures) w.table-is
     ]
-
-pub returns : goal.returns
-returns c = record {
-  meaning = c.loop-number.invariant.meaning;
-  tally = clearing_all _ _ _ _ c.loop-number.invariant (omega arith);
-}

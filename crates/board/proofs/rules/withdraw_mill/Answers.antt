@@ -20,17 +20,12 @@ close_mill-requires c =
     ap (λ tally. load (shop_in (meant c.clear_mill.new.table) tally) (placement tally) mill) cleared
     ∙ cleared_empty (meant c.clear_mill.new.table) (tally_of c.args.table.now) mill
 
-pub place_again-requires : goal.place_again-requires
-place_again-requires c =
+pub place_again-requires-clause-free : goal.place_again-requires-clause-free
+place_again-requires-clause-free c t place stood on =
     let before = c.args.table.now in
     let off = gone c.args.mill.0 (tally_of c.args.table.now) _ _ c.clear_mill.ensures.tally c.close_mill.ensures.tally in
-    record {
-      meaning = c.close_mill.ensures.meaning ∙ c.clear_mill.ensures.meaning;
-      off = off;
-      free = λ t place stood on.
-          let other = withdraw_free (meant before) (tally_of before) (service_few before) c.args.mill c.requires t place stood on in
-          (other.0, ap (λ tally. mill_for (meant before) tally.service place.program other.0) off ∙ other.1);
-    }
+    let other = withdraw_free (meant before) (tally_of before) (service_few before) c.args.mill c.requires t place stood on in
+    (other.0, ap (λ tally. mill_for (meant before) tally.service place.program other.0) off ∙ other.1)
 
 pub returns : goal.returns
 returns c =

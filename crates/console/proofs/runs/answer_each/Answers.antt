@@ -1,11 +1,8 @@
-use Rattle.std.proofs.Common.{get_or, refl, ◌∙◌, subst}
+use Rattle.std.proofs.Common.{get_or, ◌∙◌, subst}
 use Rattle.console.specs.Exchanges.{Exchanged}
 use Rattle.console.specs.States.{state_of, below}
-use Rattle.console.proofs.ExchangeSteps.{exchanging_start, exchanging_more, exchanging_all}
+use Rattle.console.proofs.ExchangeSteps.{exchanging_more}
 use Rattle.console.proofs.runs.answer_each.Goals as goal
-
-pub loop-exchange-init : goal.loop-exchange-init
-loop-exchange-init g c = (refl, exchanging_start _ c.args.exchanges.now (state_of c.args.console) c.requires)
 
 pub loop-exchange-preserved : goal.loop-exchange-preserved
 loop-exchange-preserved g c =
@@ -18,9 +15,3 @@ loop-exchange-preserved g c =
           c.loop-exchange.auto.exchanges c.loop-exchange-test.true c.exchange-item.result c.answer_exchange-console.new.exchange after
           (subst (λ source. Exchanged (meaning source) state lent c.answer_exchange-console.new.exchange after) c.loop-exchange.invariant.0 c.answer_exchange-console.ensures.exchanged),
     )
-
-pub returns : goal.returns
-returns g c = record {
-  below = c.loop-exchange.invariant.0;
-  ran = exchanging_all _ _ _ _ _ c.loop-exchange.invariant.1 c.loop-exchange.auto.exchanges c.loop-exchange-test.false;
-}
