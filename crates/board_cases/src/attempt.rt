@@ -35,7 +35,7 @@ pub fn attempt<S>(
         Ok(answer) => tell::accepted(rt, answer, moves.as_slice()),
         Err(refusal) => {
             tell::refused(rt, refusal, moves.as_slice())?;
-            let kept = if before.shows(board) {
+            let kept = if before == Snapshot::of(board) {
                 "board unchanged"
             } else {
                 "BOARD CHANGED"

@@ -61,7 +61,7 @@ fn take_step<S>(rt: &HostRuntime, board: &mut Board<S>, step: Step) -> io::Resul
             attempt(rt, board, Call::Return { mill }, entries)
         }
         Step::Report => tell::report(rt, board),
-        Step::Place(number) => tell::place(rt, board, number),
-        Step::Load(number) => tell::load(rt, board, number),
+        Step::Place(number) => tell::place(rt, board, Ticket(number)),
+        Step::Load(number) => tell::load(rt, board, Mill(number)),
     }
 }

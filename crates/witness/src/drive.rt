@@ -67,37 +67,34 @@ const DRAWS: u32 = 3;
 /// How many differences are told.
 const TOLD: u32 = 10;
 
-/// A board, and beside it what stands where as its calls tell it.
+/// A board, beside it what stands where as its calls tell it, and what its calls are drawn from.
 #[derive(Drop)]
 struct Bench<'a> {
     board: Board<Shop>,
     tally: Tally<'a>,
+    random: Random,
+    tickets: u8,
 }
 
 impl Bench<'_> {
     /// Draws a call, and most often another one for one that is to be refused.
-    fn draw(&self, random: &mut Random, tickets: u8) -> Call {
+    fn draw(&mut self) -> Call {
         let shop = self.tally.shop();
-        let mut call = draw_call(random, shop, tickets);
+        let mut call = draw_call(&mut self.random, shop, self.tickets);
         for _ in 0..DRAWS {
             let refused = refusals::due(&self.tally, call, usize::MAX).is_some();
-            if refused && !random.one_in(6) {
-                call = draw_call(random, shop, tickets);
+            if refused && !self.random.one_in(6) {
+                call = draw_call(&mut self.random, shop, self.tickets);
             }
         }
         call
     }
 
     /// Performs a drawn call, and compares what came of it.
-    fn drive(
-        &mut self,
-        rt: &HostRuntime,
-        random: &mut Random,
-        tickets: u8,
-        counts: &mut Counts,
-    ) -> Result<(), Difference> {
-        let call = self.draw(random, tickets);
-        let room = draw_room(random, self.tally.standing());
+    fn drive(&mut self, rt: &HostRuntime, counts: &mut Counts) -> Result<(), Difference> {
+        let call = self.draw();
+        let standing = self.tally.standing();
+        let room = draw_room(&mut self.random, standing);
         let mut list = vec![in rt.alloc(); UNWRITTEN; room]?;
         let answer = perform(&mut self.board, call, list.as_mut_slice());
         counts.note(call, answer);
@@ -135,10 +132,12 @@ fn drive_board(rt: &HostRuntime, seed: u64, course: Course, counts: &mut Counts)
     let mut bench = Bench {
         board: Board::open(shop),
         tally: Tally::open(rt.alloc(), &shop),
+        random,
+        tickets: course.tickets,
     };
     counts.boards = counts.boards.saturating_add(1);
     for number in 0..CALLS {
-        if let Err(difference) = bench.drive(rt, &mut random, course.tickets, counts) {
+        if let Err(difference) = bench.drive(rt, counts) {
             counts.differing = counts.differing.saturating_add(1);
             if counts.differing <= TOLD {
                 println!(rt; "seed {seed}, call {number}: {difference:?}")?;
