@@ -9,13 +9,17 @@ use vocabulary::{Mill, Program};
 /// The length of the longest sheet.
 const LONGEST: usize = 35_088;
 
-/// Whether two sources answer alike, for each of the 256 programs and the 64 mills that there may be.
+/// Whether two sources answer alike for a program, for each of the 64 mills that there may be.
+fn same_row<S: Source, R: Source>(one: &S, other: &R, program: Program) -> bool {
+    (0..64).all(|number| {
+        let mill = Mill(number);
+        one.able(program, mill) == other.able(program, mill)
+    })
+}
+
+/// Whether two sources answer alike, for each of the 256 programs.
 fn same_answers<S: Source, R: Source>(one: &S, other: &R) -> bool {
-    let same_row = |program: Program| {
-        (0..64).map(|number| Mill(number)).all(|mill| one.able(program, mill)
-            == other.able(program, mill))
-    };
-    one.mills() == other.mills() && (0..=255).all(|number| same_row(Program(number)))
+    one.mills() == other.mills() && (0..=255).all(|number| same_row(one, other, Program(number)))
 }
 
 /// Writes the sheet of a source, and tells whether it reads back as what the source means.
