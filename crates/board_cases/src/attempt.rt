@@ -8,7 +8,7 @@ use board::{Answer, Board, Call, Move};
 use std::io;
 use vocabulary::Refusal;
 
-/// Asks a board by the method that each call has for itself.
+/// Asks a board by the method that each call has for itself, and not by `perform`, so that each of them is run.
 fn ask<S>(board: &mut Board<S>, call: Call, moves: &mut [Move]) -> Result<Answer, Refusal>
     ensures { Called board.old call board.new result moves.old moves.new }
 {

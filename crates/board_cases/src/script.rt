@@ -5,7 +5,8 @@ use board::{Board, Call};
 use std::io;
 use vocabulary::{Mill, Program, Ticket};
 
-/// One step of a script. The last number of a call is how many entries its list has.
+/// One step of a script. The last number of a call is how many entries its list has. A step holds bare numbers and no `Call`, since
+/// the scripts are tables that are read beside what is told.
 #[derive(Clone, Copy)]
 pub enum Step {
     /// A ticket comes with its program.

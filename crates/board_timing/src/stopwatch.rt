@@ -61,7 +61,7 @@ impl Stopwatch {
     }
 }
 
-/// How many tickets an accepted call moved.
+/// How many tickets an accepted call moved. The cases of boards have the same few lines: a crate for one match is no plainer.
 fn count_in(answer: Answer) -> u16
     ensures { result ≡ count_in answer }
 {

@@ -35,7 +35,7 @@ pub enum Difference {
     /// The answer tells another number of records than there are.
     Count {
         told: u16,
-        due: u16,
+        due: usize,
     },
     /// A ticket stands on a mill that is out of service or not able.
     Unable {

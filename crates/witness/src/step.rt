@@ -28,7 +28,7 @@ pub struct Step<'a> {
 impl Step<'_> {
     /// Whether the call was refused as it is due, and else did what its rule says.
     pub fn check(&self) -> Result<(), Difference> {
-        let told = self.answer.err().map(|refusal| Told::from(refusal));
+        let told = self.answer.err().map(Told::from);
         let due = refusals::due(self.before, self.call, self.list.len());
         Difference::Refused { told, due }.unless(told == due)?;
         match self.answer {
@@ -65,13 +65,17 @@ impl Step<'_> {
     /// Whether the list has a record for each ticket that stands before and after on different mills, by rising ticket number,
     /// and nothing behind them.
     pub fn check_records(&self, told: u16) -> Result<(), Difference> {
-        let mut due = 0u16;
-        for record in (0..TICKETS).filter_map(|number| self.record_of(Ticket(number))) {
-            let entry = usize::from(due);
-            Difference::Record { entry }.unless(self.list.get(entry) == Some(&record))?;
-            due = due.saturating_add(1);
-        }
-        Difference::Count { told, due }.unless(told == due)?;
+        let records: Vec<Move> = (0..TICKETS)
+            .filter_map(|number| self.record_of(Ticket(number)))
+            .collect(self.after.heap())?;
+        let due = records.len();
+        let entry = records
+            .iter()
+            .zip(self.list)
+            .take_while(|(record, entry)| record == entry)
+            .count();
+        Difference::Record { entry }.unless(entry == due)?;
+        Difference::Count { told, due }.unless(usize::from(told) == due)?;
         self.check_unwritten(told)
     }
 

@@ -41,6 +41,11 @@ impl<'a> Tally<'a> {
         self.shop
     }
 
+    /// Where the tally is kept.
+    pub fn heap(&self) -> Global {
+        *self.seats.allocator()
+    }
+
     /// The standing tickets.
     pub fn seats(&self) -> &[Seat] {
         self.seats.as_slice()
@@ -87,7 +92,7 @@ impl<'a> Tally<'a> {
         requires { F.IsAlwaysCallable is_wanted }
     {
         (0..self.shop.mills())
-            .map(|number| Mill(number))
+            .map(Mill)
             .any(|mill| is_wanted(mill) && self.takes(program, mill))
     }
 
