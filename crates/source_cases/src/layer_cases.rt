@@ -31,7 +31,8 @@ pub fn strikes(rt: &HostRuntime) -> io::Result<()> {
     println!(rt; "  {mills} mills")
 }
 
-/// Makes an entry for each of the first so many programs, and tells how many were taken.
+/// Makes an entry for each of the first so many programs, and tells how many were taken: in a loop, since each entry changes the
+/// table.
 fn taken_of<F: FnMut(Program) -> Result<(), Refusal>>(programs: u8, mut entry: F) -> u8
     requires { F.IsAlwaysCallable entry }
 {

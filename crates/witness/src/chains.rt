@@ -18,7 +18,7 @@ pub struct Choice {
 /// Of the mills that a chain from a new ticket reaches the least load, and the fewest tickets of a chain to such a mill.
 pub fn to_place(tally: &Tally, program: Program) -> Result<Option<Choice>, AllocError> {
     let loads = tally.loads();
-    least(tally, |first, last, tickets| {
+    least_key(tally, |first, last, tickets| {
         tally.takes(program, first).then_some(Choice {
             load: loads.at(last),
             tickets,
@@ -30,7 +30,7 @@ pub fn to_place(tally: &Tally, program: Program) -> Result<Option<Choice>, Alloc
 pub fn to_shift(tally: &Tally, mill: Mill) -> Result<Option<Choice>, AllocError> {
     let loads = tally.loads();
     let improving = loads.at(mill).saturating_add(2);
-    let chosen = least(tally, |first, last, tickets| {
+    let chosen = least_key(tally, |first, last, tickets| {
         let load = loads.at(first);
         (last == mill && load >= improving).then_some((Reverse(load), tickets))
     })?;
@@ -38,14 +38,14 @@ pub fn to_shift(tally: &Tally, mill: Mill) -> Result<Option<Choice>, AllocError>
 }
 
 /// The least of the keys that are told of chains: of the first mill of each, its last, and the number of standing tickets in it.
-fn least<K: Ord + Copy, F: Fn(Mill, Mill, u16) -> Option<K>>(
+fn least_key<K: Ord + Copy, F: Fn(Mill, Mill, u16) -> Option<K>>(
     tally: &Tally,
     key: F,
 ) -> Result<Option<K>, AllocError>
     requires { F.IsAlwaysCallable key }
 {
     let mills = tally.shop().mills();
-    let mut least: Option<K> = None;
+    let mut best: Option<K> = None;
     for length in 1..=mills {
         let tickets = u16::from(length).saturating_sub(1);
         for number in 0..u32::from(mills).saturating_pow(u32::from(length)) {
@@ -55,11 +55,11 @@ fn least<K: Ord + Copy, F: Fn(Mill, Mill, u16) -> Option<K>>(
                 && let Some(key) = key(*first, *last, tickets)
                 && is_chain(tally, row.as_slice())
             {
-                least = Some(least.map_or(key, |least| least.min(key)));
+                best = Some(best.map_or(key, |best| best.min(key)));
             }
         }
     }
-    Ok(least)
+    Ok(best)
 }
 
 /// Whether some mills in a row are a chain: none is there twice, and from each to the next a ticket can go on.

@@ -43,7 +43,7 @@ pub struct Counts {
     dones: Accepted,
     withdrawals: Accepted,
     returns: Accepted,
-    /// How many calls were refused with each number.
+    /// How many calls were refused with each number; the number is the place in the table.
     refused: [u32; NUMBERS],
 }
 
