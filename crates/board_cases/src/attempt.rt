@@ -8,7 +8,7 @@ use board::{Answer, Board, Call, Move};
 use std::io;
 use vocabulary::Refusal;
 
-/// Asks a board by the method that each call has for itself.
+/// Asks a board by the method that each call has for itself, and not by `perform`, so that each of them is run.
 fn ask<S>(board: &mut Board<S>, call: Call, moves: &mut [Move]) -> Result<Answer, Refusal>
     ensures { Called board.old call board.new result moves.old moves.new }
 {
@@ -35,7 +35,7 @@ pub fn attempt<S>(
         Ok(answer) => tell::accepted(rt, answer, moves.as_slice()),
         Err(refusal) => {
             tell::refused(rt, refusal, moves.as_slice())?;
-            let kept = if before.shows(board) {
+            let kept = if before == Snapshot::of(board) {
                 "board unchanged"
             } else {
                 "BOARD CHANGED"

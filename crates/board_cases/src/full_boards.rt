@@ -1,8 +1,7 @@
 //! Boards on which every ticket stands.
-use crate::list::marked;
 use crate::script::{Step, play};
 use crate::shop::able_everywhere;
-use crate::sweep::Sweep;
+use crate::sweep::perform_all;
 use board::{Board, Call};
 use std::io;
 use tools::ToolSource;
@@ -14,17 +13,12 @@ const TICKETS: u16 = 1024;
 /// A board on so many mills that can cut everything, on which the first so many tickets stand, each with the low byte of its
 /// number for its program.
 fn filled(rt: &HostRuntime, mills: usize, tickets: u16) -> io::Result<Board<ToolSource>> {
-    let mut moves = marked(rt.alloc(), usize::from(TICKETS))?;
     let mut board = Board::open(able_everywhere(rt.alloc(), mills)?);
-    let mut added = Sweep::start();
-    for number in 0..tickets {
-        let call = Call::Add {
-            ticket: Ticket(number),
-            program: Program((number % 256) as u8),
-        };
-        added.note(board.perform(call, moves.as_mut_slice()));
-    }
-    added.tell(rt, "tickets added")?;
+    let adds = (0..tickets).map(|number| Call::Add {
+        ticket: Ticket(number),
+        program: Program((number % 256) as u8),
+    });
+    perform_all(rt, "tickets added", &mut board, adds)?;
     Ok(board)
 }
 
@@ -74,18 +68,11 @@ const SPREAD: &[Step] = &[Step::Report];
 
 /// All mills of a full board but mill 0 go one after another, and come back one after another.
 pub fn through_one_mill(rt: &HostRuntime) -> io::Result<()> {
-    let mut moves = marked(rt.alloc(), usize::from(TICKETS))?;
     let mut board = filled(rt, 64, TICKETS)?;
-    let mut withdrawn = Sweep::start();
-    for mill in 1..64 {
-        withdrawn.note(board.withdraw(Mill(mill), moves.as_mut_slice()));
-    }
-    withdrawn.tell(rt, "mills withdrawn")?;
+    let withdrawals = (1..64).map(|number| Call::Withdraw { mill: Mill(number) });
+    perform_all(rt, "mills withdrawn", &mut board, withdrawals)?;
     play(rt, "a full board on the 1 mill left", &mut board, CROWDED)?;
-    let mut returned = Sweep::start();
-    for mill in 1..64 {
-        returned.note(board.return_mill(Mill(mill), moves.as_mut_slice()));
-    }
-    returned.tell(rt, "mills returned")?;
+    let returns = (1..64).map(|number| Call::Return { mill: Mill(number) });
+    perform_all(rt, "mills returned", &mut board, returns)?;
     play(rt, "a full board on 64 mills again", &mut board, SPREAD)
 }

@@ -48,9 +48,10 @@ pub fn one_run(rt: &HostRuntime) -> io::Result<()> {
         answered(rt, request)?;
     }
     tell::report(rt, &board)?;
-    tell::place(rt, &board, 5)?;
-    tell::place(rt, &board, 6)?;
-    tell::place(rt, &board, 7)
+    for number in 5..=7 {
+        tell::place(rt, &board, Ticket(number))?;
+    }
+    Ok(())
 }
 
 /// Tells what came of a request.

@@ -5,7 +5,8 @@ use board::{Board, Call};
 use std::io;
 use vocabulary::{Mill, Program, Ticket};
 
-/// One step of a script. The last number of a call is how many entries its list has.
+/// One step of a script. The last number of a call is how many entries its list has. A step holds bare numbers and no `Call`, since
+/// the scripts are tables that are read beside what is told.
 #[derive(Clone, Copy)]
 pub enum Step {
     /// A ticket comes with its program.
@@ -61,7 +62,7 @@ fn take_step<S>(rt: &HostRuntime, board: &mut Board<S>, step: Step) -> io::Resul
             attempt(rt, board, Call::Return { mill }, entries)
         }
         Step::Report => tell::report(rt, board),
-        Step::Place(number) => tell::place(rt, board, number),
-        Step::Load(number) => tell::load(rt, board, number),
+        Step::Place(number) => tell::place(rt, board, Ticket(number)),
+        Step::Load(number) => tell::load(rt, board, Mill(number)),
     }
 }

@@ -1,6 +1,6 @@
 //! A board with a move list that suits every call.
 use crate::stopwatch::Stopwatch;
-use board::{Board, Call, Move};
+use board::{Board, Call, Move, Report};
 use std::alloc::{AllocError, Global};
 use std::io;
 use tools::ToolSource;
@@ -41,20 +41,23 @@ impl Bench {
         let _ = self.board.perform(call, self.moves.as_mut_slice());
     }
 
-    /// Adds tickets from one number up to another, all with one program.
-    pub fn prepare_tickets(&mut self, from: u16, to: u16, program: Program) {
-        for number in from..to {
+    /// Adds so many tickets from a number on, all with one program.
+    pub fn prepare_tickets(&mut self, first: u16, count: u16, program: Program) {
+        for number in first..first.saturating_add(count) {
             self.prepare(adding(number, program));
         }
     }
 
     /// Tells the report of the board.
     pub fn tell(&self, rt: &HostRuntime, what: &str) -> io::Result<()> {
-        let report = self.board.report();
-        let highest = report.highest_load;
-        let busy = report.busy_mills;
-        let flow = report.flow_time;
-        println!(rt; "{what}: highest load {highest}, {busy} busy mills, flow time {flow}")
+        let Report {
+            highest_load,
+            busy_mills,
+            flow_time,
+        } = self.board.report();
+        println!(rt;
+            "{what}: highest load {highest_load}, {busy_mills} busy mills, flow time {flow_time}"
+        )
     }
 }
 

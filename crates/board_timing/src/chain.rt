@@ -22,17 +22,14 @@ const MILL_ROUNDS: u32 = 20;
 /// The last of mill 63 is the last ticket of all.
 fn even_row(heap: Global, load: u16) -> Result<Bench, AllocError> {
     let mut bench = Bench::open(heap, chain(heap)?)?;
-    let mut number = 0u16;
-    for program in 0..63u8 {
-        let next = number.saturating_add(load);
-        bench.prepare_tickets(number, next, Program(program));
-        number = next;
+    for program in 0..63 {
+        bench.prepare_tickets(
+            load.saturating_mul(u16::from(program)),
+            load,
+            Program(program),
+        );
     }
-    bench.prepare_tickets(
-        number,
-        number.saturating_add(load.saturating_sub(1)),
-        LAST_ALONE,
-    );
+    bench.prepare_tickets(load.saturating_mul(63), load.saturating_sub(1), LAST_ALONE);
     bench.prepare(adding(LAST, LAST_ALONE));
     Ok(bench)
 }
@@ -41,8 +38,8 @@ fn even_row(heap: Global, load: u16) -> Result<Bench, AllocError> {
 pub fn add_and_done(rt: &HostRuntime) -> io::Result<()> {
     let mut bench = even_row(rt.alloc(), 16)?;
     bench.tell(rt, "chain, 1024 tickets")?;
-    let mut adds = Stopwatch::start();
-    let mut dones = Stopwatch::start();
+    let mut adds = Stopwatch::default();
+    let mut dones = Stopwatch::default();
     for _ in 0..ROUNDS {
         bench.time(rt, &mut dones, finishing(LAST))?;
         bench.time(rt, &mut adds, adding(LAST, FIRST_ALONE))?;
@@ -58,8 +55,8 @@ pub fn done_along_it(rt: &HostRuntime) -> io::Result<()> {
     let mut bench = even_row(rt.alloc(), 15)?;
     bench.prepare(adding(FIRST, FIRST_ALONE));
     bench.tell(rt, "chain, 961 tickets")?;
-    let mut adds = Stopwatch::start();
-    let mut dones = Stopwatch::start();
+    let mut adds = Stopwatch::default();
+    let mut dones = Stopwatch::default();
     for _ in 0..ROUNDS {
         bench.time(rt, &mut dones, finishing(LAST))?;
         bench.time(rt, &mut adds, adding(LAST, LAST_ALONE))?;
@@ -75,8 +72,8 @@ pub fn withdraw_and_return(rt: &HostRuntime) -> io::Result<()> {
     let mut bench = even_row(rt.alloc(), 16)?;
     bench.prepare(finishing(LAST));
     bench.tell(rt, "chain, 1023 tickets")?;
-    let mut withdrawals = Stopwatch::start();
-    let mut returns = Stopwatch::start();
+    let mut withdrawals = Stopwatch::default();
+    let mut returns = Stopwatch::default();
     for _ in 0..MILL_ROUNDS {
         bench.time(rt, &mut withdrawals, withdrawing(1))?;
         bench.time(rt, &mut returns, returning(1))?;

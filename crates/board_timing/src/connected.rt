@@ -26,8 +26,8 @@ fn nearly_full(heap: Global) -> Result<Bench, AllocError> {
 pub fn add_and_done(rt: &HostRuntime) -> io::Result<()> {
     let mut bench = nearly_full(rt.alloc())?;
     bench.tell(rt, "connected, 1023 tickets")?;
-    let mut adds = Stopwatch::start();
-    let mut dones = Stopwatch::start();
+    let mut adds = Stopwatch::default();
+    let mut dones = Stopwatch::default();
     for _ in 0..ROUNDS {
         bench.time(rt, &mut adds, adding(LAST, Program(0)))?;
         bench.time(rt, &mut dones, finishing(LAST))?;
@@ -39,8 +39,8 @@ pub fn add_and_done(rt: &HostRuntime) -> io::Result<()> {
 /// Mill 0 goes and comes back.
 pub fn withdraw_and_return(rt: &HostRuntime) -> io::Result<()> {
     let mut bench = nearly_full(rt.alloc())?;
-    let mut withdrawals = Stopwatch::start();
-    let mut returns = Stopwatch::start();
+    let mut withdrawals = Stopwatch::default();
+    let mut returns = Stopwatch::default();
     for _ in 0..MILL_ROUNDS {
         bench.time(rt, &mut withdrawals, withdrawing(0))?;
         bench.time(rt, &mut returns, returning(0))?;

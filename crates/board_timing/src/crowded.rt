@@ -19,10 +19,10 @@ pub fn return_and_withdraw(rt: &HostRuntime) -> io::Result<()> {
     let mut bench = Bench::open(rt.alloc(), crowded(rt.alloc())?)?;
     bench.prepare(withdrawing(1));
     bench.prepare_tickets(0, ALONE, ELSEWHERE);
-    bench.prepare_tickets(ALONE, TICKETS, CROWDED);
+    bench.prepare_tickets(ALONE, TICKETS - ALONE, CROWDED);
     bench.tell(rt, "crowded, 1024 tickets")?;
-    let mut returns = Stopwatch::start();
-    let mut withdrawals = Stopwatch::start();
+    let mut returns = Stopwatch::default();
+    let mut withdrawals = Stopwatch::default();
     for _ in 0..ROUNDS {
         bench.time(rt, &mut returns, returning(1))?;
         bench.time(rt, &mut withdrawals, withdrawing(1))?;

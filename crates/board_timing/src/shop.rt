@@ -1,5 +1,6 @@
 //! The shops of 64 mills in which the time is taken.
 use std::alloc::{AllocError, Global};
+use std::array;
 use tools::{Extent, MillRow, ProgramRow, ToolSource};
 use vocabulary::Program;
 
@@ -40,28 +41,22 @@ pub fn chain(heap: Global) -> Result<ToolSource, AllocError> {
 
 /// The mill table of the row.
 fn chain_mills() -> [MillRow; MILLS] {
-    let mut mills = [having(0); MILLS];
-    for number in 0..64u8 {
-        mills[usize::from(number)] = chain_mill(number);
-    }
-    mills
+    array::from_fn(|number| chain_mill(number as u8))
 }
 
 /// The program table of the row.
 fn chain_programs() -> [ProgramRow; 65] {
-    let mut programs = [needing(0); 65];
-    for number in 0..63u8 {
-        programs[usize::from(number)] = needing(1 << number);
-    }
-    programs[usize::from(FIRST_ALONE.0)] = long_program(Extent {
-        x: LONG,
-        ..NO_EXTENT
-    });
-    programs[usize::from(LAST_ALONE.0)] = long_program(Extent {
-        y: LONG,
-        ..NO_EXTENT
-    });
-    programs
+    array::from_fn(|number| match Program(number as u8) {
+        FIRST_ALONE => long_program(Extent {
+            x: LONG,
+            ..NO_EXTENT
+        }),
+        LAST_ALONE => long_program(Extent {
+            y: LONG,
+            ..NO_EXTENT
+        }),
+        Program(own) => needing(1 << own),
+    })
 }
 
 /// A mill of the row: it has the tool of its own number, but for the last, and that of the mill before.

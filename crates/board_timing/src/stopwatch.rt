@@ -3,12 +3,12 @@ ghost use Rattle.std.specs.Prelude.{◌≡◌, ◌≤◌};
 ghost use Rattle.board.specs.Records.{count_in};
 
 use board::{Answer, Board, Call, Move};
-use std::io;
 use std::time::Instant;
+use std::{fmt, io};
 use vocabulary::Refusal;
 
 /// The calls of one kind: how many were made and accepted, how many tickets they moved, and how long they took in nanoseconds.
-#[derive(Drop)]
+#[derive(Default, Drop)]
 pub struct Stopwatch {
     calls: u32,
     accepted: u32,
@@ -18,17 +18,6 @@ pub struct Stopwatch {
 }
 
 impl Stopwatch {
-    /// No call yet.
-    pub fn start() -> Stopwatch {
-        Stopwatch {
-            calls: 0,
-            accepted: 0,
-            moved: 0,
-            total: 0,
-            worst: 0,
-        }
-    }
-
     /// Performs a call and takes its time.
     pub fn take<S>(
         &mut self,
@@ -59,20 +48,20 @@ impl Stopwatch {
 
     /// Tells what the calls did, and how long they took.
     pub fn tell(&self, rt: &HostRuntime, what: &str) -> io::Result<()> {
-        let calls = self.calls;
-        let accepted = self.accepted;
-        let moved = self.moved;
-        println!(rt; "{what}: {calls} calls, {accepted} accepted, {moved} moved")?;
-        let mean = self.total / u128::from(calls.max(1));
-        eprint!(rt; "{what}: mean ")?;
-        micros(rt, mean)?;
-        eprint!(rt; ", worst ")?;
-        micros(rt, self.worst)?;
-        eprintln!(rt; " microseconds")
+        println!(rt;
+            "{what}: {} calls, {} accepted, {} moved",
+            self.calls, self.accepted, self.moved
+        )?;
+        let mean = self.total / u128::from(self.calls.max(1));
+        eprintln!(rt;
+            "{what}: mean {}, worst {} microseconds",
+            Micros(mean),
+            Micros(self.worst)
+        )
     }
 }
 
-/// How many tickets an accepted call moved.
+/// How many tickets an accepted call moved. The cases of boards have the same few lines: a crate for one match is no plainer.
 fn count_in(answer: Answer) -> u16
     ensures { result ≡ count_in answer }
 {
@@ -81,9 +70,14 @@ fn count_in(answer: Answer) -> u16
     }
 }
 
-/// Tells a time in microseconds, with one place behind the point.
-fn micros(rt: &HostRuntime, nanos: u128) -> io::Result<()> {
-    let whole = nanos / 1000;
-    let tenth = nanos / 100 % 10;
-    eprint!(rt; "{whole}.{tenth}")
+/// A time in nanoseconds, told in microseconds with one place behind the point.
+#[derive(Clone, Copy)]
+struct Micros(u128);
+
+impl fmt::Display for Micros {
+    fn fmt<W: fmt::Write>(&self, f: &mut fmt::Formatter<W>) -> fmt::Result {
+        let whole = self.0 / 1000;
+        let tenth = self.0 / 100 % 10;
+        write!(f, "{whole}.{tenth}")
+    }
 }

@@ -33,17 +33,12 @@ fn attempt<S: Source + Drop>(
     Ok(console)
 }
 
-/// Answers the lines on one console.
-fn attempts<S: Source + Drop>(rt: &HostRuntime, source: S) -> io::Result<()> {
-    let mut console = Console::new(source);
+/// Areas that are too short by one byte, that just serve, and that are longer, on one console.
+pub fn areas(rt: &HostRuntime) -> io::Result<()> {
+    println!(rt; "areas of several lengths")?;
+    let mut console = Console::new(SheetSource::new(THREE_MILLS.as_bytes()));
     for (line, length) in LINES {
         console = attempt(rt, console, line, *length)?;
     }
     Ok(())
-}
-
-/// Areas that are too short by one byte, that just serve, and that are longer.
-pub fn areas(rt: &HostRuntime) -> io::Result<()> {
-    println!(rt; "areas of several lengths")?;
-    attempts(rt, SheetSource::new(THREE_MILLS.as_bytes()))
 }

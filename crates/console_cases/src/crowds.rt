@@ -1,6 +1,6 @@
 //! Boards of a thousand tickets, and calls that move hundreds of them at once.
 use crate::frames::add_line;
-use crate::run::{list, push_line, push_lines, run};
+use crate::run::Lines;
 use crate::shop::{ROW, TWO_MILLS, row_of_mills};
 use std::io;
 
@@ -30,20 +30,13 @@ const THERE_AND_BACK: &[&str] = &[
 /// Every ticket there is comes to mill 0 while mill 1 is away.
 pub fn on_two_mills(rt: &HostRuntime) -> io::Result<()> {
     let heap = rt.alloc();
-    let mut exchanges = list(heap, AWAY)?;
+    let mut lines = Lines::of(heap, AWAY)?;
     for ticket in 0..TICKETS {
-        let line = add_line(heap, ticket, PROGRAM)?;
-        push_line(heap, &mut exchanges, line.as_slice())?;
+        lines.push(add_line(heap, ticket, PROGRAM)?.as_str())?;
     }
-    let together = exchanges.len();
-    push_lines(heap, &mut exchanges, THERE_AND_BACK)?;
-    run(
-        rt,
-        "1,024 tickets on two mills",
-        TWO_MILLS.as_bytes(),
-        exchanges.as_mut_slice(),
-        together,
-    )
+    let together = lines.count();
+    lines.push_all(THERE_AND_BACK)?;
+    lines.run(rt, "1,024 tickets on two mills", TWO_MILLS, together)
 }
 
 /// Mill 0 goes and comes back.
@@ -79,19 +72,17 @@ fn program_in_row(ticket: u16) -> u8 {
 /// goes, each of its tickets pushes one ticket of every mill on the way to the nearest mill that is not a fuller one.
 pub fn on_a_row_of_mills(rt: &HostRuntime) -> io::Result<()> {
     let heap = rt.alloc();
-    let mut exchanges = Vec::new(heap);
+    let mut lines = Lines::new(heap);
     for ticket in 0..MILLS * LOAD + FULLER {
-        let line = add_line(heap, ticket, program_in_row(ticket))?;
-        push_line(heap, &mut exchanges, line.as_slice())?;
+        lines.push(add_line(heap, ticket, program_in_row(ticket))?.as_str())?;
     }
-    let together = exchanges.len();
-    push_lines(heap, &mut exchanges, FIRST_MILL)?;
+    let together = lines.count();
+    lines.push_all(FIRST_MILL)?;
     let sheet = row_of_mills(heap)?;
-    run(
+    lines.run(
         rt,
         "1,008 tickets on a row of 64 mills",
-        sheet.as_slice(),
-        exchanges.as_mut_slice(),
+        sheet.as_str(),
         together,
     )
 }

@@ -1,8 +1,7 @@
 //! Lines that are faulty.
 use crate::frames::frame;
-use crate::run::{list, push_line, push_lines, run};
+use crate::run::Lines;
 use crate::shop::THREE_MILLS;
-use console::Exchange;
 use std::alloc::AllocError;
 use std::io;
 
@@ -46,31 +45,23 @@ const FAULTS: &[&str] = &[
     "2203090100D1\n", // alias of three bytes
 ];
 
-/// Lines of the most digits and of too many: frames of kind report with right counts, as far as a count goes, and right sums.
-fn push_long_lines(rt: &HostRuntime, exchanges: &mut Vec<Exchange>) -> Result<(), AllocError> {
-    let heap = rt.alloc();
+/// Adds lines of the most digits and of too many: frames of kind report with right counts, as far as a count goes, and right sums.
+fn push_long_lines(lines: &mut Lines) -> Result<(), AllocError> {
+    let heap = lines.heap();
     for payload in [LONGEST, LONGEST + 1] {
         let zeros = vec![in heap; 0u8; payload]?;
-        let line = frame(heap, 0x16, zeros.as_slice())?;
-        push_line(heap, exchanges, line.as_slice())?;
+        lines.push(frame(heap, 0x16, zeros.as_slice())?.as_str())?;
     }
     Ok(())
 }
 
 /// The faulty lines before the board is open, which leave it closed, and to an open board.
 pub fn faults(rt: &HostRuntime) -> io::Result<()> {
-    let heap = rt.alloc();
-    let mut exchanges = list(heap, FAULTS)?;
-    push_long_lines(rt, &mut exchanges)?;
-    push_lines(heap, &mut exchanges, &[STRIKE, REPORT])?;
-    push_lines(heap, &mut exchanges, FAULTS)?;
-    push_long_lines(rt, &mut exchanges)?;
-    push_lines(heap, &mut exchanges, &[STRIKE])?;
-    run(
-        rt,
-        "faulty lines",
-        THREE_MILLS.as_bytes(),
-        exchanges.as_mut_slice(),
-        0,
-    )
+    let mut lines = Lines::of(rt.alloc(), FAULTS)?;
+    push_long_lines(&mut lines)?;
+    lines.push_all(&[STRIKE, REPORT])?;
+    lines.push_all(FAULTS)?;
+    push_long_lines(&mut lines)?;
+    lines.push(STRIKE)?;
+    lines.run(rt, "faulty lines", THREE_MILLS, 0)
 }

@@ -1,9 +1,7 @@
 //! Tables of strikes and aliases that are full.
 use crate::frames::frame;
-use crate::run::{push_line, push_lines, run};
+use crate::run::Lines;
 use crate::shop::THREE_MILLS;
-use console::Exchange;
-use std::alloc::{AllocError, Global};
 use std::io;
 
 /// How many entries are made before the ones that are spelled out.
@@ -32,27 +30,16 @@ const ALIASES: &[&str] = &[
     "22020903D0\n", // 9 cut as 3
 ];
 
-/// Entries of this kind for the programs from the first on, each with the number 1, and then these lines.
-fn entries(heap: Global, kind: u8, lines: &[&str]) -> Result<Vec<Exchange>, AllocError> {
-    let mut exchanges = Vec::new(heap);
+/// Runs entries of this kind for the programs from the first on, each with the number 1, and then these lines, through a console.
+fn filled(rt: &HostRuntime, title: &str, kind: u8, rest: &[&str]) -> io::Result<()> {
+    let heap = rt.alloc();
+    let mut lines = Lines::new(heap);
     for program in FIRST..FIRST + BEFORE {
-        let line = frame(heap, kind, &[program, 1])?;
-        push_line(heap, &mut exchanges, line.as_slice())?;
+        lines.push(frame(heap, kind, &[program, 1])?.as_str())?;
     }
-    push_lines(heap, &mut exchanges, lines)?;
-    Ok(exchanges)
-}
-
-/// Runs a list of entries of this kind through a console.
-fn filled(rt: &HostRuntime, title: &str, kind: u8, lines: &[&str]) -> io::Result<()> {
-    let mut exchanges = entries(rt.alloc(), kind, lines)?;
-    run(
-        rt,
-        title,
-        THREE_MILLS.as_bytes(),
-        exchanges.as_mut_slice(),
-        usize::from(BEFORE),
-    )
+    let together = lines.count();
+    lines.push_all(rest)?;
+    lines.run(rt, title, THREE_MILLS, together)
 }
 
 /// Fills both tables.

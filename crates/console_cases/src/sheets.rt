@@ -1,8 +1,9 @@
 //! Texts that are no lawful sheets.
-use crate::run::{list, run};
+use crate::run::Lines;
 use crate::shop::THREE_MILLS;
 use sheet::check;
 use std::io;
+use telling::Refused;
 
 /// What is wrong with a text, and the text.
 const TEXTS: &[(&str, &str)] = &[
@@ -49,11 +50,7 @@ const COMMANDS: &[&str] = &[
 fn checked(rt: &HostRuntime, what: &str, text: &str) -> io::Result<()> {
     match check(text.as_bytes()) {
         Ok(mills) => println!(rt; "  {what}: lawful, {mills} mills"),
-        Err(refusal) => {
-            let number = refusal.number();
-            let place = refusal.place();
-            println!(rt; "  {what}: refused with {number} at {place}")
-        }
+        Err(refusal) => println!(rt; "  {what}: {}", Refused(refusal)),
     }
 }
 
@@ -68,6 +65,5 @@ pub fn texts(rt: &HostRuntime) -> io::Result<()> {
 
 /// A console over a text that is no lawful sheet, which means no mills.
 pub fn without_mills(rt: &HostRuntime) -> io::Result<()> {
-    let mut exchanges = list(rt.alloc(), COMMANDS)?;
-    run(rt, "no lawful sheet", b"", exchanges.as_mut_slice(), 0)
+    Lines::of(rt.alloc(), COMMANDS)?.run(rt, "no lawful sheet", "", 0)
 }

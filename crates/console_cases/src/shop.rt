@@ -12,8 +12,8 @@ pub const TWO_MILLS: &str = "010102FC\n0203070001F3\n0F00F1\n";
 pub const ROW: u8 = 64;
 
 /// A row of mills: each program on the mill of its number and on the next one, and the last program on the last mill alone.
-pub fn row_of_mills(heap: Global) -> Result<Vec<u8>, AllocError> {
-    let mut text = Vec::new(heap);
+pub fn row_of_mills(heap: Global) -> Result<String, AllocError> {
+    let mut text = String::new(heap);
     push_frame(&mut text, 0x01, &[ROW])?;
     for mill in 0..ROW - 1 {
         push_frame(&mut text, 0x02, &[mill, mill, mill + 1])?;

@@ -2,6 +2,7 @@
 use console::Exchange;
 use std::alloc::{AllocError, Global};
 use std::io;
+use telling::Refused;
 use vocabulary::Refusal;
 
 /// What areas are filled with beforehand: a byte that no answer has.
@@ -15,25 +16,18 @@ const FRONT: usize = 11;
 
 /// A text on one line, with `|` for each line feed and `^` for each carriage return.
 fn on_one_line(heap: Global, text: &[u8]) -> Result<String, AllocError> {
-    let mut line = String::new(heap);
-    for byte in text {
-        line.push(match *byte {
+    text.iter()
+        .map(|byte| match *byte {
             b'\n' => '|',
             b'\r' => '^',
             other => char::from(other),
-        })?;
-    }
-    Ok(line)
+        })
+        .collect(heap)
 }
 
 /// Whether every byte is the marker.
 fn is_untouched(bytes: &[u8]) -> bool {
-    for byte in bytes {
-        if *byte != MARKER {
-            return false;
-        }
-    }
-    true
+    bytes.iter().all(|byte| *byte == MARKER)
 }
 
 /// What became of the area behind an answer.
@@ -46,23 +40,15 @@ fn rest_told(rest: &[u8]) -> &'static str {
 }
 
 /// How many lines a text has.
-fn lines_in(text: &[u8]) -> u32 {
-    let mut lines = 0u32;
-    for byte in text {
-        if *byte == b'\n' {
-            lines = lines.saturating_add(1);
-        }
-    }
-    lines
+fn lines_in(text: &[u8]) -> usize {
+    text.iter().filter(|byte| **byte == b'\n').count()
 }
 
 /// A sum over the bytes of a text that goes on from an earlier sum, and in which their order counts.
 fn summed(before: u32, text: &[u8]) -> u32 {
-    let mut sum = before;
-    for byte in text {
-        sum = sum.wrapping_mul(31).wrapping_add(u32::from(*byte));
-    }
-    sum
+    text.iter().fold(before, |sum, byte| {
+        sum.wrapping_mul(31).wrapping_add(u32::from(*byte))
+    })
 }
 
 /// Tells a text: in full if it is short, and else its front, how long it is and its sum.
@@ -93,10 +79,8 @@ pub fn answered(
     match answer {
         Ok(length) => written(rt, area, length),
         Err(refusal) => {
-            let number = refusal.number();
-            let place = refusal.place();
             let kept = rest_told(area);
-            println!(rt; " refused with {number} at {place}, {kept}")
+            println!(rt; " {}, {kept}", Refused(refusal))
         }
     }
 }
@@ -133,7 +117,7 @@ pub fn together(rt: &HostRuntime, exchanges: &[Exchange]) -> io::Result<()> {
     if exchanges.is_empty() {
         return Ok(());
     }
-    let mut lines = 0u32;
+    let mut lines = 0usize;
     let mut sum = 0u32;
     let mut kept = true;
     for exchange in exchanges {

@@ -18,7 +18,7 @@ fn two_mills() -> Shop {
 }
 
 /// The tally of tickets 0 and 1 on two mills.
-fn pair_on(heap: Global, shop: &Shop, first: u8, second: u8) -> Result<Tally, AllocError> {
+fn pair_on(heap: Global, shop: &Shop, first: u8, second: u8) -> Result<Tally<'_>, AllocError> {
     let mut tally = Tally::open(heap, shop);
     for (ticket, mill) in [(0, first), (1, second)] {
         tally.put(Seat {
@@ -35,11 +35,11 @@ fn pair_on(heap: Global, shop: &Shop, first: u8, second: u8) -> Result<Tally, Al
 fn one_cycle_too_long(rt: HostRuntime) -> Result<(), Fail> {
     let shop = two_mills();
     let even = pair_on(rt.alloc(), &shop, 1, 0)?;
-    assert!(rt; matches!(compare::with_placements(&shop, &even), Ok(4)));
+    assert!(rt; matches!(compare::with_placements(&even), Ok(4)));
     let uneven = pair_on(rt.alloc(), &shop, 1, 1)?;
     assert!(rt;
         matches!(
-            compare::with_placements(&shop, &uneven),
+            compare::with_placements(&uneven),
             Err(Difference::Total {
                 board: 3,
                 best: 2,
@@ -62,7 +62,6 @@ fn one_move_too_many(rt: HostRuntime) -> Result<(), Fail> {
         to: Mill(0),
     };
     let step = Step {
-        shop: &shop,
         before: &before,
         after: &after,
         call: Call::Withdraw { mill: Mill(1) },

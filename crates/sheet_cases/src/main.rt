@@ -6,6 +6,7 @@ use capability::Source;
 use sheet::{SheetSource, check, write_sheet};
 use std::alloc::{AllocError, Global};
 use std::io;
+use telling::Refused;
 use vocabulary::Refusal;
 
 /// What an area is filled with before a sheet is written into it.
@@ -16,21 +17,14 @@ const SPARE: usize = 7;
 
 /// The text that a line of the input spells.
 fn spelled(heap: Global, line: &[u8]) -> Result<Vec<u8>, AllocError> {
-    let mut text = Vec::new(heap);
-    for c in line {
-        text.push(if *c == b'|' { b'\n' } else { *c })?;
-    }
-    Ok(text)
+    line.iter()
+        .map(|c| if *c == b'|' { b'\n' } else { *c })
+        .collect(heap)
 }
 
 /// Whether every byte is the filler.
 fn all_filler(bytes: &[u8]) -> bool {
-    for b in bytes {
-        if *b != FILLER {
-            return false;
-        }
-    }
-    true
+    bytes.iter().all(|b| *b == FILLER)
 }
 
 /// Whether an area of `length` bytes takes the sheet of a source as this text, and keeps what lies behind it.
@@ -41,15 +35,9 @@ fn takes<S: Source>(
     length: usize,
 ) -> Result<bool, AllocError> {
     let mut area = vec![in heap; FILLER; length]?;
-    match write_sheet(source, area.as_mut_slice()) {
-        Ok(_) => {
-            let Some((front, back)) = area.as_slice().split_at_checked(text.len()) else {
-                return Ok(false);
-            };
-            Ok(front == text && all_filler(back))
-        }
-        Err(_) => Ok(false),
-    }
+    let written = write_sheet(source, area.as_mut_slice()).is_ok();
+    let parts = area.as_slice().split_at_checked(text.len());
+    Ok(written && parts.is_some_and(|(front, back)| front == text && all_filler(back)))
 }
 
 /// The refusal of an area of `length` bytes, if it leaves the area as it was.
@@ -87,11 +75,7 @@ fn written(rt: &HostRuntime, text: &[u8]) -> io::Result<()> {
 /// Tells a refusal, or that there was none.
 fn told(rt: &HostRuntime, what: &str, refusal: Option<Refusal>) -> io::Result<()> {
     match refusal {
-        Some(refusal) => {
-            let number = refusal.number();
-            let place = refusal.place();
-            println!(rt; ", {what} refused with {number} at {place}")
-        }
+        Some(refusal) => println!(rt; ", {what} {}", Refused(refusal)),
         None => println!(rt; ", {what} NOT REFUSED"),
     }
 }
@@ -104,9 +88,7 @@ fn run(rt: &HostRuntime, text: &[u8]) -> io::Result<()> {
             written(rt, text)
         }
         Err(refusal) => {
-            let number = refusal.number();
-            let place = refusal.place();
-            print!(rt; "refused with {number} at {place}")?;
+            print!(rt; "{}", Refused(refusal))?;
             told(
                 rt,
                 "its sheet",

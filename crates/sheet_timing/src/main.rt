@@ -11,24 +11,25 @@ use vocabulary::{Mill, Program};
 /// How often everything is asked.
 const ROUNDS: u32 = 20;
 
-/// Asks for each of 256 programs on each of 64 mills, and tells how many pairs are able.
-fn able_pairs<S: Source>(source: &S) -> u32 {
-    let mut able = 0u32;
-    for program in 0..=255 {
-        for mill in 0..64 {
-            if source.able(Program(program), Mill(mill)) {
-                able = able.saturating_add(1);
-            }
-        }
-    }
-    able
+/// Asks for a program on each of 64 mills, and tells how many are able.
+fn able_mills<S: Source>(source: &S, program: Program) -> usize {
+    (0..64)
+        .filter(|number| source.able(program, Mill(*number)))
+        .count()
+}
+
+/// Asks for each of 256 programs, and tells how many pairs are able.
+fn able_pairs<S: Source>(source: &S) -> usize {
+    (0..=255).fold(0usize, |pairs, number| {
+        pairs.saturating_add(able_mills(source, Program(number)))
+    })
 }
 
 fn main(rt: HostRuntime) -> io::Result<()> {
     let text = fs::read(&rt, "full.hex")?;
     let source = SheetSource::new(text.as_slice());
     let start = Instant::now(&rt)?;
-    let mut able = 0u32;
+    let mut able = 0;
     for _ in 0..ROUNDS {
         able = able_pairs(&source);
     }

@@ -1,7 +1,9 @@
 //! What a sheet means, line by line.
 use capability::Source;
 use sheet::{SheetSource, check, write_sheet};
+use std::alloc::{AllocError, Global};
 use std::io;
+use telling::Refused;
 use vocabulary::{Mill, Program, Refusal};
 
 /// Tells what was found in a text: what the sheet means and that it was written back, or why it is refused.
@@ -19,40 +21,33 @@ pub fn report(rt: &HostRuntime, text: &[u8]) -> io::Result<()> {
 }
 
 /// Tells each program that some mill can cut, with its mills, and gives the number of able pairs.
-fn programs<S: Source>(rt: &HostRuntime, source: &S) -> io::Result<u32> {
-    let mut pairs = 0u32;
+fn programs<S: Source>(rt: &HostRuntime, source: &S) -> io::Result<usize> {
+    let mut pairs = 0usize;
     for number in 0..=255 {
         let program = Program(number);
-        let count = able_mills(source, program);
-        if count > 0 {
-            print!(rt; "program {number} can be cut on:")?;
-            mills(rt, source, program)?;
+        let mills = able_mills(rt.alloc(), source, program)?;
+        if !mills.is_empty() {
+            print!(rt; "program {program} can be cut on:")?;
+            for mill in mills.iter() {
+                print!(rt; " mill {mill}")?;
+            }
             println!(rt; "")?;
         }
-        pairs = pairs.saturating_add(count);
+        pairs = pairs.saturating_add(mills.len());
     }
     Ok(pairs)
 }
 
-/// How many mills are able for a program.
-fn able_mills<S: Source>(source: &S, program: Program) -> u32 {
-    let mut count = 0u32;
-    for number in 0..source.mills() {
-        if source.able(program, Mill(number)) {
-            count = count.saturating_add(1);
-        }
-    }
-    count
-}
-
-/// Tells the mills that are able for a program.
-fn mills<S: Source>(rt: &HostRuntime, source: &S, program: Program) -> io::Result<()> {
-    for number in 0..source.mills() {
-        if source.able(program, Mill(number)) {
-            print!(rt; " mill {number}")?;
-        }
-    }
-    Ok(())
+/// The mills that are able for a program.
+fn able_mills<S: Source>(
+    heap: Global,
+    source: &S,
+    program: Program,
+) -> Result<Vec<Mill>, AllocError> {
+    (0..source.mills())
+        .map(|number| Mill(number))
+        .filter(|mill| source.able(program, *mill))
+        .collect(heap)
 }
 
 /// Writes the sheet of a source, and tells whether it is the text that the source was read from.
@@ -60,8 +55,7 @@ fn written_back<S: Source>(rt: &HostRuntime, source: &S, text: &[u8]) -> io::Res
     let mut area = vec![in rt.alloc(); 0u8; text.len()]?;
     match write_sheet(source, area.as_mut_slice()) {
         Ok(length) => {
-            let same = area.as_slice() == text;
-            let verdict = if same {
+            let verdict = if area.as_slice() == text {
                 "the same bytes"
             } else {
                 "other bytes"
@@ -72,8 +66,7 @@ fn written_back<S: Source>(rt: &HostRuntime, source: &S, text: &[u8]) -> io::Res
     }
 }
 
+/// Tells what was refused, and why.
 fn refused(rt: &HostRuntime, what: &str, refusal: Refusal) -> io::Result<()> {
-    let number = refusal.number();
-    let place = refusal.place();
-    println!(rt; "{what} is refused with {number} at {place}: {refusal}")
+    println!(rt; "{what} is {}: {refusal}", Refused(refusal))
 }

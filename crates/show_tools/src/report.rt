@@ -1,9 +1,34 @@
 //! The tool rule in words.
 use capability::Source;
 use sets::NumberSet;
-use std::io;
+use std::{fmt, io};
+use telling::Refused;
 use tools::{Extent, MillRow, ProgramRow, ToolSource, check_mills};
 use vocabulary::{Mill, Program};
+
+/// Three lengths, in words.
+#[derive(Clone, Copy)]
+struct Lengths(Extent);
+
+impl fmt::Display for Lengths {
+    fn fmt<W: fmt::Write>(&self, f: &mut fmt::Formatter<W>) -> fmt::Result {
+        let Extent { x, y, z } = self.0;
+        write!(f, "{x} x {y} x {z} mm")
+    }
+}
+
+/// The tools of a set, in words.
+#[derive(Clone, Copy)]
+struct Tools(NumberSet);
+
+impl fmt::Display for Tools {
+    fn fmt<W: fmt::Write>(&self, f: &mut fmt::Formatter<W>) -> fmt::Result {
+        for tool in self.0.iter() {
+            write!(f, " tool {tool}")?;
+        }
+        Ok(())
+    }
+}
 
 /// Tells whether a mill table is lawful, and if not, why.
 pub fn check(rt: &HostRuntime, mills: &[MillRow]) -> io::Result<()> {
@@ -11,9 +36,10 @@ pub fn check(rt: &HostRuntime, mills: &[MillRow]) -> io::Result<()> {
     match check_mills(mills) {
         Ok(()) => println!(rt; "a table of {count} mills is lawful"),
         Err(refusal) => {
-            let number = refusal.number();
-            let place = refusal.place();
-            println!(rt; "a table of {count} mills is refused with {number} at {place}: {refusal}")
+            println!(rt;
+                "a table of {count} mills is {}: {refusal}",
+                Refused(refusal)
+            )
         }
     }
 }
@@ -21,25 +47,25 @@ pub fn check(rt: &HostRuntime, mills: &[MillRow]) -> io::Result<()> {
 /// Tells the mills of a shop, and of each of its programs which mills can cut it.
 pub fn report(rt: &HostRuntime, mills: &[MillRow], programs: &[ProgramRow]) -> io::Result<()> {
     check(rt, mills)?;
-    for number in 0..=255u8 {
-        let Some(mill) = mills.get(usize::from(number)) else {
-            break;
-        };
-        print!(rt; "mill {number} travels ")?;
-        extent(rt, mill.travel)?;
-        print!(rt; " and has")?;
-        tools(rt, NumberSet::from_bits(mill.tools))?;
+    for (number, row) in (0..=255).zip(mills) {
+        let mill = Mill(number);
+        let tools = NumberSet::from_bits(row.tools);
+        println!(rt;
+            "mill {mill} travels {} and has{}",
+            Lengths(row.travel),
+            Tools(tools)
+        )?;
     }
     let source = ToolSource::new(rt.alloc(), mills, programs)?;
-    for number in 0..=255u8 {
-        let Some(row) = programs.get(usize::from(number)) else {
-            break;
-        };
-        print!(rt; "program {number} has a blank of ")?;
-        extent(rt, row.blank)?;
-        print!(rt; " and needs")?;
-        tools(rt, NumberSet::from_bits(row.tools))?;
-        verdicts(rt, &source, mills, Program(number), row)?;
+    for (number, row) in (0..=255).zip(programs) {
+        let program = Program(number);
+        let tools = NumberSet::from_bits(row.tools);
+        println!(rt;
+            "program {program} has a blank of {} and needs{}",
+            Lengths(row.blank),
+            Tools(tools)
+        )?;
+        verdicts(rt, &source, mills, program, row)?;
     }
     Ok(())
 }
@@ -52,52 +78,33 @@ fn verdicts(
     program: Program,
     row: &ProgramRow,
 ) -> io::Result<()> {
-    for number in 0..source.mills() {
-        let Some(mill) = mills.get(usize::from(number)) else {
-            break;
-        };
-        if source.able(program, Mill(number)) {
-            println!(rt; "  mill {number} can cut it")?;
+    for (number, mill_row) in (0..source.mills()).zip(mills) {
+        let mill = Mill(number);
+        if source.able(program, mill) {
+            println!(rt; "  mill {mill} can cut it")?;
         } else {
-            reasons(rt, number, mill, row)?;
+            reasons(rt, mill, mill_row, row)?;
         }
     }
     Ok(())
 }
 
 /// Tells each tool that a mill lacks for a program, and each axis on which the blank is too long for it.
-fn reasons(rt: &HostRuntime, number: u8, mill: &MillRow, row: &ProgramRow) -> io::Result<()> {
-    let missing = NumberSet::from_bits(row.tools).difference(NumberSet::from_bits(mill.tools));
+fn reasons(rt: &HostRuntime, mill: Mill, mill_row: &MillRow, row: &ProgramRow) -> io::Result<()> {
+    let missing = NumberSet::from_bits(row.tools).difference(NumberSet::from_bits(mill_row.tools));
     for tool in missing.iter() {
-        println!(rt; "  mill {number} cannot cut it: tool {tool} is missing")?;
+        println!(rt; "  mill {mill} cannot cut it: tool {tool} is missing")?;
     }
-    axis(rt, number, "x", row.blank.x, mill.travel.x)?;
-    axis(rt, number, "y", row.blank.y, mill.travel.y)?;
-    axis(rt, number, "z", row.blank.z, mill.travel.z)
-}
-
-/// Tells that a blank is too long on an axis, if it is.
-fn axis(rt: &HostRuntime, number: u8, name: &str, blank: u16, travel: u16) -> io::Result<()> {
-    if blank > travel {
-        println!(rt;
-            "  mill {number} cannot cut it: its {name} axis travels {travel} mm, and the blank has {blank} mm"
-        )?;
+    for (name, blank, travel) in [
+        ("x", row.blank.x, mill_row.travel.x),
+        ("y", row.blank.y, mill_row.travel.y),
+        ("z", row.blank.z, mill_row.travel.z),
+    ] {
+        if blank > travel {
+            println!(rt;
+                "  mill {mill} cannot cut it: its {name} axis travels {travel} mm, and the blank has {blank} mm"
+            )?;
+        }
     }
     Ok(())
-}
-
-/// Tells three lengths.
-fn extent(rt: &HostRuntime, lengths: Extent) -> io::Result<()> {
-    let x = lengths.x;
-    let y = lengths.y;
-    let z = lengths.z;
-    print!(rt; "{x} x {y} x {z} mm")
-}
-
-/// Tells the tools of a set, to the end of the line.
-fn tools(rt: &HostRuntime, set: NumberSet) -> io::Result<()> {
-    for tool in set.iter() {
-        print!(rt; " tool {tool}")?;
-    }
-    println!(rt; "")
 }

@@ -3,22 +3,23 @@ use crate::shop::{plain_shop, shop};
 use capability::Source;
 use sheet::{SheetSource, check, write_sheet};
 use std::io;
+use telling::Refused;
 use vocabulary::{Mill, Program};
 
 /// The length of the longest sheet.
 const LONGEST: usize = 35_088;
 
-/// Whether two sources answer alike, for each of the 256 programs and the 64 mills that there may be.
+/// Whether two sources answer alike for a program, for each of the 64 mills that there may be.
+fn same_row<S: Source, R: Source>(one: &S, other: &R, program: Program) -> bool {
+    (0..64).all(|number| {
+        let mill = Mill(number);
+        one.able(program, mill) == other.able(program, mill)
+    })
+}
+
+/// Whether two sources answer alike, for each of the 256 programs.
 fn same_answers<S: Source, R: Source>(one: &S, other: &R) -> bool {
-    for program in 0..=255 {
-        for mill in 0..64 {
-            let asked = one.able(Program(program), Mill(mill));
-            if other.able(Program(program), Mill(mill)) != asked {
-                return false;
-            }
-        }
-    }
-    one.mills() == other.mills()
+    one.mills() == other.mills() && (0..=255).all(|number| same_row(one, other, Program(number)))
 }
 
 /// Writes the sheet of a source, and tells whether it reads back as what the source means.
@@ -27,20 +28,13 @@ pub fn sheet<S: Source>(rt: &HostRuntime, what: &str, source: &S) -> io::Result<
     match write_sheet(source, area.as_mut_slice()) {
         Ok(length) => {
             let text = area.as_slice().split_at_checked(length);
-            let same = match text {
-                Some((text, _)) => {
-                    check(text).is_ok() && same_answers(source, &SheetSource::new(text))
-                }
-                None => false,
-            };
+            let same = text.is_some_and(|(text, _)| {
+                check(text).is_ok() && same_answers(source, &SheetSource::new(text))
+            });
             let back = if same { "the same" } else { "NOT THE SAME" };
             println!(rt; "{what}: {length} bytes, read back {back}")
         }
-        Err(refusal) => {
-            let number = refusal.number();
-            let place = refusal.place();
-            println!(rt; "{what}: refused with {number} at {place}")
-        }
+        Err(refusal) => println!(rt; "{what}: {}", Refused(refusal)),
     }
 }
 

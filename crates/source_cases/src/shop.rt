@@ -30,10 +30,7 @@ pub fn shop(heap: Global) -> Result<ToolSource, AllocError> {
         mill_with(0x44_4444_4444),
         mill_with(0x88_8888_8888),
     ];
-    let mut programs = Vec::new(heap);
-    for tool in 0..40u8 {
-        programs.push(program_with(1 << tool))?;
-    }
+    let programs: Vec<ProgramRow> = (0..40).map(|tool| program_with(1 << tool)).collect(heap)?;
     ToolSource::new(heap, &mills, programs.as_slice())
 }
 

@@ -4,7 +4,7 @@ use crate::tell;
 use capability::Source;
 use std::io;
 use tools::{Extent, Magazine, MillRow, ProgramRow, ToolSource, check_mills};
-use vocabulary::{Mill, Program, Refusal};
+use vocabulary::{Mill, Program};
 
 /// The 20 tools 0 to 19, and one and two more.
 const TWENTY: u64 = 0x000F_FFFF;
@@ -31,43 +31,20 @@ fn length(rt: &HostRuntime, what: &str, blank: Extent, travel: Extent) -> io::Re
 
 /// Blanks that equal the travel, and that pass it by one, on each axis.
 pub fn lengths(rt: &HostRuntime) -> io::Result<()> {
-    let travel = Extent {
-        x: 400,
-        y: 300,
-        z: 200,
-    };
-    length(rt, "blank as long as the travel", travel, travel)?;
-    length(rt, "no blank", NO_EXTENT, travel)?;
-    length(
-        rt,
-        "as long on x alone",
-        Extent {
-            x: 400,
-            ..NO_EXTENT
-        },
-        travel,
-    )?;
-    length(
-        rt,
-        "as long on y alone",
-        Extent {
-            y: 300,
-            ..NO_EXTENT
-        },
-        travel,
-    )?;
-    length(
-        rt,
-        "as long on z alone",
-        Extent {
-            z: 200,
-            ..NO_EXTENT
-        },
-        travel,
-    )?;
-    length(rt, "one over on x", Extent { x: 401, ..travel }, travel)?;
-    length(rt, "one over on y", Extent { y: 301, ..travel }, travel)?;
-    length(rt, "one over on z", Extent { z: 201, ..travel }, travel)?;
+    let (x, y, z) = (400, 300, 200);
+    let travel = Extent { x, y, z };
+    for (what, blank) in [
+        ("blank as long as the travel", travel),
+        ("no blank", NO_EXTENT),
+        ("as long on x alone", Extent { x, ..NO_EXTENT }),
+        ("as long on y alone", Extent { y, ..NO_EXTENT }),
+        ("as long on z alone", Extent { z, ..NO_EXTENT }),
+        ("one over on x", Extent { x: 401, ..travel }),
+        ("one over on y", Extent { y: 301, ..travel }),
+        ("one over on z", Extent { z: 201, ..travel }),
+    ] {
+        length(rt, what, blank, travel)?;
+    }
     let longest = Extent {
         x: 65_535,
         y: 65_535,
@@ -85,65 +62,57 @@ pub fn lengths(rt: &HostRuntime) -> io::Result<()> {
     )
 }
 
-/// Tells whether a magazine has what a program needs, where every blank fits.
-fn need(rt: &HostRuntime, what: &str, tools: u64, needed: u64) -> io::Result<()> {
-    one_pair(rt, what, mill_with(tools), program_with(needed))
-}
+/// What is told, the tools of a magazine, and those that are needed: none, some of those that are there, all of them, and one
+/// that is missing.
+const NEEDS: [(&str, u64, u64); 8] = [
+    ("no tool needed of an empty magazine", 0, 0),
+    ("no tool needed of tools 1 and 2", 0b110, 0),
+    ("tool 1 needed of tools 1 and 2", 0b110, 0b10),
+    ("tools 1 and 2 needed of tools 1 and 2", 0b110, 0b110),
+    ("tools 1, 2 and 3 needed of tools 1 and 2", 0b110, 0b1110),
+    ("tool 0 needed of tools 1 and 2", 0b110, 1),
+    ("tool 63 needed of tool 63", 1 << 63, 1 << 63),
+    ("tool 63 needed of tools 0 to 19", TWENTY, 1 << 63),
+];
 
-/// No tool needed, some of those that are there, all of them, and one that is missing.
+/// Whether a magazine has what a program needs, where every blank fits.
 pub fn needs(rt: &HostRuntime) -> io::Result<()> {
-    need(rt, "no tool needed of an empty magazine", 0, 0)?;
-    need(rt, "no tool needed of tools 1 and 2", 0b110, 0)?;
-    need(rt, "tool 1 needed of tools 1 and 2", 0b110, 0b10)?;
-    need(rt, "tools 1 and 2 needed of tools 1 and 2", 0b110, 0b110)?;
-    need(
-        rt,
-        "tools 1, 2 and 3 needed of tools 1 and 2",
-        0b110,
-        0b1110,
-    )?;
-    need(rt, "tool 0 needed of tools 1 and 2", 0b110, 1)?;
-    need(rt, "tool 63 needed of tool 63", 1 << 63, 1 << 63)?;
-    need(rt, "tool 63 needed of tools 0 to 19", TWENTY, 1 << 63)
-}
-
-/// Tells whether one magazine is taken.
-fn magazine(rt: &HostRuntime, what: &str, tools: u64) -> io::Result<()> {
-    let made = match Magazine::of(&mill_with(tools)) {
-        Ok(_) => Ok(()),
-        Err(refusal) => Err(refusal),
-    };
-    tell::taken(rt, what, made)
+    for (what, tools, needed) in NEEDS {
+        one_pair(rt, what, mill_with(tools), program_with(needed))?;
+    }
+    Ok(())
 }
 
 /// Magazines at the limit and past it.
-pub fn magazines(rt: &HostRuntime) -> io::Result<()> {
-    magazine(rt, "a magazine without tools", 0)?;
-    magazine(rt, "a magazine of 20 tools", TWENTY)?;
-    magazine(
-        rt,
+const MAGAZINES: [(&str, u64); 5] = [
+    ("a magazine without tools", 0),
+    ("a magazine of 20 tools", TWENTY),
+    (
         "a magazine of 20 tools, the last of them 63",
         TWENTY / 2 + (1 << 63),
-    )?;
-    magazine(rt, "a magazine of 21 tools", TWENTY_ONE)?;
-    magazine(rt, "a magazine of 64 tools", u64::MAX)
+    ),
+    ("a magazine of 21 tools", TWENTY_ONE),
+    ("a magazine of 64 tools", u64::MAX),
+];
+
+/// Whether each magazine is taken.
+pub fn magazines(rt: &HostRuntime) -> io::Result<()> {
+    for (what, tools) in MAGAZINES {
+        tell::taken(rt, what, Magazine::of(&mill_with(tools)).map(|_| ()))?;
+    }
+    Ok(())
 }
 
 /// How many pairs of program 0 a source has able, of all the mills that can be named.
-fn able_mills(source: &ToolSource) -> u16 {
-    let mut count = 0u16;
-    for mill in 0..=255 {
-        if source.able(Program(0), Mill(mill)) {
-            count = count.saturating_add(1);
-        }
-    }
-    count
+fn able_mills(source: &ToolSource) -> usize {
+    (0..=255)
+        .filter(|number| source.able(Program(0), Mill(*number)))
+        .count()
 }
 
 /// Tells what a mill table is checked to be, and what a source over it means with one program that needs nothing.
 fn table(rt: &HostRuntime, what: &str, mills: &[MillRow]) -> io::Result<()> {
-    let checked: Result<(), Refusal> = check_mills(mills);
-    tell::taken(rt, what, checked)?;
+    tell::taken(rt, what, check_mills(mills))?;
     let source = ToolSource::new(rt.alloc(), mills, &[program_with(0)])?;
     let count = source.mills();
     let able = able_mills(&source);
@@ -175,13 +144,8 @@ pub fn past_the_tables(rt: &HostRuntime) -> io::Result<()> {
     let heap = rt.alloc();
     println!(rt; "two mills and one program")?;
     let small = plain_shop(heap, 2, 0, 1)?;
-    tell::pair(rt, &small, 0, 1)?;
-    tell::pair(rt, &small, 1, 0)?;
-    tell::pair(rt, &small, 255, 0)?;
-    tell::pair(rt, &small, 0, 2)?;
-    tell::pair(rt, &small, 0, 255)?;
+    tell::pairs(rt, &small, &[(0, 1), (1, 0), (255, 0), (0, 2), (0, 255)])?;
     println!(rt; "one mill and 300 programs")?;
     let large = plain_shop(heap, 1, 0, 300)?;
-    tell::pair(rt, &large, 255, 0)?;
-    tell::pair(rt, &large, 255, 1)
+    tell::pairs(rt, &large, &[(255, 0), (255, 1)])
 }

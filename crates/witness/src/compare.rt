@@ -3,7 +3,6 @@ use crate::difference::Difference;
 use crate::loads::Loads;
 use crate::placements;
 use crate::placements::Best;
-use crate::prices::PRICES;
 use crate::shop::Shop;
 use crate::tally::Tally;
 use board::Board;
@@ -16,70 +15,44 @@ pub const TICKETS: u16 = 1024;
 pub fn with_board(board: &Board<Shop>, tally: &Tally) -> Result<(), Difference> {
     for number in 0..=TICKETS {
         let ticket = Ticket(number);
-        if board.where_is(ticket) != tally.mill_of(ticket) {
-            return Err(Difference::Stands { ticket });
-        }
+        Difference::Stands { ticket }.unless(board.where_is(ticket) == tally.mill_of(ticket))?;
     }
     let loads = tally.loads();
     for number in 0..=255 {
         let mill = Mill(number);
-        if board.load(mill) != loads.at(mill) {
-            return Err(Difference::Load { mill });
-        }
+        Difference::Load { mill }.unless(board.load(mill) == loads.at(mill))?;
     }
-    with_report(board, &loads)
-}
-
-/// Whether a board reports what the loads come to.
-fn with_report(board: &Board<Shop>, loads: &Loads) -> Result<(), Difference> {
     let report = board.report();
-    if report.highest_load == loads.highest()
-        && report.busy_mills == loads.busy()
-        && report.flow_time == loads.flow_time()
-    {
-        Ok(())
-    } else {
-        Err(Difference::Report)
-    }
+    Difference::Report.unless(
+        report.highest_load == loads.highest()
+            && usize::from(report.busy_mills) == loads.busy()
+            && report.flow_time == loads.flow_time(),
+    )
 }
 
 /// Whether no placement of the standing tickets is better than that of a tally, and how many there are.
-pub fn with_placements(shop: &Shop, tally: &Tally) -> Result<u32, Difference> {
+pub fn with_placements(tally: &Tally) -> Result<u32, Difference> {
     for seat in tally.seats() {
-        if !tally.takes(shop, seat.program, seat.mill) {
-            return Err(Difference::Unable {
-                ticket: seat.ticket,
-            });
-        }
+        let ticket = seat.ticket;
+        Difference::Unable { ticket }.unless(tally.takes(seat.program, seat.mill))?;
     }
-    let best = placements::try_all(shop, tally);
+    let best = placements::try_all(tally);
     with_best(&tally.loads(), &best)?;
     Ok(best.tried)
 }
 
 /// Whether loads are as good as the best ones.
 fn with_best(loads: &Loads, best: &Best) -> Result<(), Difference> {
-    for (price, least) in PRICES.iter().zip(best.totals) {
-        let board = loads.total(*price);
-        if board != least {
-            return Err(Difference::Total {
-                price: *price,
-                board,
-                best: least,
-            });
-        }
+    for (price, best) in best.totals {
+        let board = loads.total(price);
+        Difference::Total { price, board, best }.unless(board == best)?;
     }
-    if loads.highest() != best.highest {
-        return Err(Difference::Highest {
-            board: loads.highest(),
-            best: best.highest,
-        });
+    let (board, highest) = (loads.highest(), best.highest);
+    Difference::Highest {
+        board,
+        best: highest,
     }
-    if loads.busy() != best.busy {
-        return Err(Difference::Busy {
-            board: loads.busy(),
-            best: best.busy,
-        });
-    }
-    Ok(())
+    .unless(board == highest)?;
+    let (board, busy) = (loads.busy(), best.busy);
+    Difference::Busy { board, best: busy }.unless(board == busy)
 }

@@ -1,26 +1,19 @@
 //! How much was compared.
 use board::{Answer, Call};
-use std::io;
+use std::fmt;
 use vocabulary::Refusal;
 
 /// Above the number of every refusal.
 const NUMBERS: usize = 17;
 
 /// Accepted calls of a kind.
-#[derive(Clone, Copy)]
+#[derive(Clone, Copy, Default)]
 struct Accepted {
     calls: u32,
     moves: u32,
     /// The most tickets that one of them moved.
     most: u16,
 }
-
-/// Before any call was accepted.
-const NONE: Accepted = Accepted {
-    calls: 0,
-    moves: 0,
-    most: 0,
-};
 
 impl Accepted {
     /// One call more.
@@ -30,18 +23,17 @@ impl Accepted {
         self.moves = self.moves.saturating_add(u32::from(count));
         self.most = self.most.max(count);
     }
+}
 
-    /// Tells how many there were.
-    fn tell(&self, rt: &HostRuntime, what: &str) -> io::Result<()> {
-        let calls = self.calls;
-        let moves = self.moves;
-        let most = self.most;
-        println!(rt; "  {what}: {calls}, {moves} moves, at most {most} by one call")
+impl fmt::Display for Accepted {
+    fn fmt<W: fmt::Write>(&self, f: &mut fmt::Formatter<W>) -> fmt::Result {
+        let Accepted { calls, moves, most } = *self;
+        write!(f, "{calls}, {moves} moves, at most {most} by one call")
     }
 }
 
 /// What was compared so far.
-#[derive(Clone, Copy)]
+#[derive(Clone, Copy, Default)]
 pub struct Counts {
     pub boards: u32,
     pub calls: u32,
@@ -51,25 +43,11 @@ pub struct Counts {
     dones: Accepted,
     withdrawals: Accepted,
     returns: Accepted,
+    /// How many calls were refused with each number; the number is the place in the table.
     refused: [u32; NUMBERS],
 }
 
 impl Counts {
-    /// Nothing yet.
-    pub fn none() -> Counts {
-        Counts {
-            boards: 0,
-            calls: 0,
-            placements: 0,
-            differing: 0,
-            adds: NONE,
-            dones: NONE,
-            withdrawals: NONE,
-            returns: NONE,
-            refused: [0; NUMBERS],
-        }
-    }
-
     /// One call more.
     pub fn note(&mut self, call: Call, answer: Result<Answer, Refusal>) {
         self.calls = self.calls.saturating_add(1);
@@ -95,28 +73,20 @@ impl Counts {
             *times = times.saturating_add(1);
         }
     }
+}
 
-    /// Tells what was compared.
-    pub fn tell(&self, rt: &HostRuntime) -> io::Result<()> {
-        let boards = self.boards;
-        let calls = self.calls;
-        println!(rt; "{boards} boards, {calls} calls")?;
-        self.adds.tell(rt, "added")?;
-        self.dones.tell(rt, "finished")?;
-        self.withdrawals.tell(rt, "mills withdrawn")?;
-        self.returns.tell(rt, "mills returned")?;
-        self.tell_refusals(rt)?;
-        let placements = self.placements;
-        println!(rt; "{placements} placements tried")
-    }
-
-    /// Tells how many calls were refused with each number.
-    fn tell_refusals(&self, rt: &HostRuntime) -> io::Result<()> {
+impl fmt::Display for Counts {
+    fn fmt<W: fmt::Write>(&self, f: &mut fmt::Formatter<W>) -> fmt::Result {
+        writeln!(f, "{} boards, {} calls", self.boards, self.calls)?;
+        writeln!(f, "  added: {}", self.adds)?;
+        writeln!(f, "  finished: {}", self.dones)?;
+        writeln!(f, "  mills withdrawn: {}", self.withdrawals)?;
+        writeln!(f, "  mills returned: {}", self.returns)?;
         for (number, times) in self.refused.iter().enumerate() {
             if *times > 0 {
-                println!(rt; "  refused with {number}: {times}")?;
+                writeln!(f, "  refused with {number}: {times}")?;
             }
         }
-        Ok(())
+        write!(f, "{} placements tried", self.placements)
     }
 }

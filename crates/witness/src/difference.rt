@@ -26,16 +26,16 @@ pub enum Difference {
     Kind,
     /// An entry of the list was written behind the records.
     Written {
-        entry: u16,
+        entry: usize,
     },
     /// An entry of the list is not the record that is due there.
     Record {
-        entry: u16,
+        entry: usize,
     },
     /// The answer tells another number of records than there are.
     Count {
         told: u16,
-        due: u16,
+        due: usize,
     },
     /// A ticket stands on a mill that is out of service or not able.
     Unable {
@@ -54,8 +54,8 @@ pub enum Difference {
     },
     /// Another placement keeps more mills busy.
     Busy {
-        board: u8,
-        best: u8,
+        board: usize,
+        best: usize,
     },
     /// The call moved another number of tickets than a chain of fewest tickets has.
     Chain {
@@ -72,10 +72,17 @@ pub enum Difference {
     /// As many tickets moved as there are mills in service, or more.
     TooMany {
         moved: u16,
-        serving: u16,
+        serving: usize,
     },
     /// No memory was left to compare in.
     NoMemory,
+}
+
+impl Difference {
+    /// This difference, unless what it denies holds.
+    pub fn unless(self, holds: bool) -> Result<(), Difference> {
+        if holds { Ok(()) } else { Err(self) }
+    }
 }
 
 impl From<AllocError> for Difference {

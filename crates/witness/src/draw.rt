@@ -6,16 +6,29 @@ use capability::Source;
 use vocabulary::{Mill, Program, Ticket};
 
 /// The tickets that are drawn from; of a board with fewer tickets the first ones.
-const TICKETS: [u16; 8] = [1023, 0, 511, 5, 1022, 1, 64, 700];
-
-/// How many programs some mills of a shop may be able for.
-const KNOWN: u8 = 6;
+const TICKETS: [Ticket; 8] = [
+    Ticket(1023),
+    Ticket(0),
+    Ticket(511),
+    Ticket(5),
+    Ticket(1022),
+    Ticket(1),
+    Ticket(64),
+    Ticket(700),
+];
 
 /// The programs that some mills of a shop may be able for.
-const PROGRAMS: [u8; 6] = [0, 1, 77, 128, 254, 255];
+const PROGRAMS: [Program; 6] = [
+    Program(0),
+    Program(1),
+    Program(77),
+    Program(128),
+    Program(254),
+    Program(255),
+];
 
 /// The program that no mill is able for.
-const UNKNOWN: u8 = 9;
+const UNKNOWN: Program = Program(9);
 
 /// How the mills of a program are drawn.
 #[derive(Clone, Copy)]
@@ -36,8 +49,8 @@ pub fn draw_shop(random: &mut Random, mills: u8) -> Shop {
         odds => Spread::Most(odds),
     };
     let mut shop = Shop::new(mills);
-    for (place, program) in (0..KNOWN).zip(PROGRAMS) {
-        allow_some(random, &mut shop, Program(program), spread, place);
+    for (place, program) in (0..).zip(PROGRAMS) {
+        allow_some(random, &mut shop, program, spread, place);
     }
     shop
 }
@@ -88,19 +101,19 @@ fn draw_ticket(random: &mut Random, tickets: u8) -> Ticket {
         0 => Ticket(1024),
         1 => Ticket(65_535),
         _ => {
-            let index = usize::from(random.below(tickets));
-            Ticket(TICKETS.get(index).copied().unwrap_or(0))
+            let first = TICKETS.get(..usize::from(tickets)).unwrap_or(&TICKETS);
+            random.one_of(first).unwrap_or_default()
         }
     }
 }
 
 /// A program, of some mills or of none.
 fn draw_program(random: &mut Random) -> Program {
-    let index = usize::from(random.below(KNOWN));
+    let known = random.one_of(&PROGRAMS);
     if random.one_in(24) {
-        Program(UNKNOWN)
+        UNKNOWN
     } else {
-        Program(PROGRAMS.get(index).copied().unwrap_or(UNKNOWN))
+        known.unwrap_or(UNKNOWN)
     }
 }
 

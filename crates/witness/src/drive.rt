@@ -67,37 +67,34 @@ const DRAWS: u32 = 3;
 /// How many differences are told.
 const TOLD: u32 = 10;
 
-/// A board, and beside it its shop and what stands where as its calls tell it.
+/// A board, beside it what stands where as its calls tell it, and what its calls are drawn from.
 #[derive(Drop)]
-struct Bench {
+struct Bench<'a> {
     board: Board<Shop>,
-    shop: Shop,
-    tally: Tally,
+    tally: Tally<'a>,
+    random: Random,
+    tickets: u8,
 }
 
-impl Bench {
+impl Bench<'_> {
     /// Draws a call, and most often another one for one that is to be refused.
-    fn draw(&self, random: &mut Random, tickets: u8) -> Call {
-        let mut call = draw_call(random, &self.shop, tickets);
+    fn draw(&mut self) -> Call {
+        let shop = self.tally.shop();
+        let mut call = draw_call(&mut self.random, shop, self.tickets);
         for _ in 0..DRAWS {
-            let refused = refusals::due(&self.shop, &self.tally, call, usize::MAX).is_some();
-            if refused && !random.one_in(6) {
-                call = draw_call(random, &self.shop, tickets);
+            let refused = refusals::due(&self.tally, call, usize::MAX).is_some();
+            if refused && !self.random.one_in(6) {
+                call = draw_call(&mut self.random, shop, self.tickets);
             }
         }
         call
     }
 
     /// Performs a drawn call, and compares what came of it.
-    fn drive(
-        &mut self,
-        rt: &HostRuntime,
-        random: &mut Random,
-        tickets: u8,
-        counts: &mut Counts,
-    ) -> Result<(), Difference> {
-        let call = self.draw(random, tickets);
-        let room = draw_room(random, self.tally.standing());
+    fn drive(&mut self, rt: &HostRuntime, counts: &mut Counts) -> Result<(), Difference> {
+        let call = self.draw();
+        let standing = self.tally.standing();
+        let room = draw_room(&mut self.random, standing);
         let mut list = vec![in rt.alloc(); UNWRITTEN; room]?;
         let answer = perform(&mut self.board, call, list.as_mut_slice());
         counts.note(call, answer);
@@ -105,7 +102,6 @@ impl Bench {
         self.tally.follow(call, answer, list.as_slice())?;
         compare::with_board(&self.board, &self.tally)?;
         let step = Step {
-            shop: &self.shop,
             before: &before,
             after: &self.tally,
             call,
@@ -113,13 +109,13 @@ impl Bench {
             list: list.as_slice(),
         };
         step.check()?;
-        let tried = compare::with_placements(&self.shop, &self.tally)?;
+        let tried = compare::with_placements(&self.tally)?;
         counts.placements = counts.placements.saturating_add(tried);
         Ok(())
     }
 }
 
-/// Asks a board for a call.
+/// Asks a board for a call, by the method that each call has for itself, so that each of them is witnessed.
 fn perform(board: &mut Board<Shop>, call: Call, list: &mut [Move]) -> Result<Answer, Refusal> {
     match call {
         Call::Add { ticket, program } => board.add(ticket, program, list),
@@ -135,12 +131,13 @@ fn drive_board(rt: &HostRuntime, seed: u64, course: Course, counts: &mut Counts)
     let shop = draw_shop(&mut random, course.mills);
     let mut bench = Bench {
         board: Board::open(shop),
-        shop,
         tally: Tally::open(rt.alloc(), &shop),
+        random,
+        tickets: course.tickets,
     };
     counts.boards = counts.boards.saturating_add(1);
     for number in 0..CALLS {
-        if let Err(difference) = bench.drive(rt, &mut random, course.tickets, counts) {
+        if let Err(difference) = bench.drive(rt, counts) {
             counts.differing = counts.differing.saturating_add(1);
             if counts.differing <= TOLD {
                 println!(rt; "seed {seed}, call {number}: {difference:?}")?;
@@ -153,7 +150,7 @@ fn drive_board(rt: &HostRuntime, seed: u64, course: Course, counts: &mut Counts)
 
 /// Drives all boards, and gives how much was compared.
 pub fn drive_all(rt: &HostRuntime) -> io::Result<Counts> {
-    let mut counts = Counts::none();
+    let mut counts = Counts::default();
     let mut seed = 1u64;
     for course in COURSES {
         for _ in 0..course.boards {

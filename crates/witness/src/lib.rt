@@ -7,6 +7,7 @@ mod chains;
 pub mod compare;
 pub mod counts;
 pub mod difference;
+mod digits;
 mod draw;
 pub mod drive;
 mod loads;

@@ -1,20 +1,19 @@
 //! Every placement of the standing tickets, tried one after the other.
+use crate::digits::Digits;
 use crate::loads::Loads;
-use crate::prices::{LISTS, PRICES};
-use crate::shop::Shop;
+use crate::prices::{LISTS, PRICES, Price};
 use crate::tally::Tally;
 use capability::Source;
-use vocabulary::Mill;
 
 /// The best that any placement comes to.
 #[derive(Clone, Copy)]
 pub struct Best {
-    /// The least total, at each price list.
-    pub totals: [u32; LISTS],
+    /// Each price list, and the least total at it.
+    pub totals: [(Price, u32); LISTS],
     /// The least of the highest loads.
     pub highest: u16,
     /// The greatest number of busy mills.
-    pub busy: u8,
+    pub busy: usize,
     /// How many placements were tried.
     pub tried: u32,
 }
@@ -23,7 +22,7 @@ impl Best {
     /// Before any placement was tried.
     fn none() -> Best {
         Best {
-            totals: [u32::MAX; LISTS],
+            totals: PRICES.map(|price| (price, u32::MAX)),
             highest: u16::MAX,
             busy: 0,
             tried: 0,
@@ -32,8 +31,8 @@ impl Best {
 
     /// One placement more.
     fn meet(&mut self, loads: &Loads) {
-        for (least, price) in self.totals.iter_mut().zip(PRICES) {
-            *least = (*least).min(loads.total(price));
+        for (price, least) in self.totals.iter_mut() {
+            *least = (*least).min(loads.total(*price));
         }
         self.highest = self.highest.min(loads.highest());
         self.busy = self.busy.max(loads.busy());
@@ -42,11 +41,11 @@ impl Best {
 }
 
 /// The best over all placements of the standing tickets, each on one of its mills.
-pub fn try_all(shop: &Shop, tally: &Tally) -> Best {
+pub fn try_all(tally: &Tally) -> Best {
     let mut best = Best::none();
     let tickets = u32::try_from(tally.standing()).unwrap_or(u32::MAX);
-    for number in 0..u32::from(shop.mills()).saturating_pow(tickets) {
-        if let Some(loads) = placement(shop, tally, number) {
+    for number in 0..u32::from(tally.shop().mills()).saturating_pow(tickets) {
+        if let Some(loads) = placement(tally, number) {
             best.meet(&loads);
         }
     }
@@ -55,23 +54,14 @@ pub fn try_all(shop: &Shop, tally: &Tally) -> Best {
 
 /// The loads of the placement of a number, whose digits are the mills of the tickets, with as many digits as there are mills.
 /// There is none where a ticket would not stand on one of its mills.
-fn placement(shop: &Shop, tally: &Tally, number: u32) -> Option<Loads> {
-    let mut loads = Loads::none();
-    let mut rest = number;
-    for seat in tally.seats() {
-        let (mill, higher) = digit(rest, shop.mills());
-        if !tally.takes(shop, seat.program, mill) {
+fn placement(tally: &Tally, number: u32) -> Option<Loads> {
+    let mut loads = Loads::default();
+    let digits = Digits::of(number, tally.shop().mills());
+    for (seat, mill) in tally.seats().iter().zip(digits) {
+        if !tally.takes(seat.program, mill) {
             return None;
         }
         loads.grow(mill);
-        rest = higher;
     }
     Some(loads)
-}
-
-/// The last digit of a number, as a mill, and the number without it.
-pub fn digit(number: u32, mills: u8) -> (Mill, u32) {
-    let base = u32::from(mills.max(1));
-    let last = u8::try_from(number % base).unwrap_or(0);
-    (Mill(last), number / base)
 }

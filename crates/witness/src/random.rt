@@ -30,6 +30,12 @@ impl Random {
         u8::try_from(drawn).unwrap_or(0)
     }
 
+    /// One of some items; none where there are none.
+    pub fn one_of<T: Copy>(&mut self, items: &[T]) -> Option<T> {
+        let bound = u8::try_from(items.len()).unwrap_or(u8::MAX);
+        items.get(usize::from(self.below(bound))).copied()
+    }
+
     /// Whether a chance of one in so many comes.
     pub fn one_in(&mut self, chances: u8) -> bool {
         self.below(chances) == 0

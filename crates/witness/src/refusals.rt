@@ -1,9 +1,8 @@
 //! Which calls are to be refused, and how.
-use crate::shop::Shop;
 use crate::tally::Tally;
 use board::Call;
 use capability::Source;
-use vocabulary::{Mill, Program, Ticket};
+use vocabulary::{Mill, Refusal};
 
 /// The number and the place of a refusal.
 #[derive(Clone, Copy, PartialEq, Eq, Debug)]
@@ -12,14 +11,25 @@ pub struct Told {
     pub place: u16,
 }
 
+impl From<Refusal> for Told {
+    fn from(refusal: Refusal) -> Told {
+        Told {
+            number: refusal.number(),
+            place: refusal.place(),
+        }
+    }
+}
+
 /// The refusal that a call is due, with a list of so much room; nothing where it is to be accepted.
-pub fn due(shop: &Shop, tally: &Tally, call: Call, room: usize) -> Option<Told> {
+/// The numbers and places stand here a second time, since a witness takes none of the board's.
+pub fn due(tally: &Tally, call: Call, room: usize) -> Option<Told> {
+    let mills = tally.shop().mills();
     let standing = u16::try_from(tally.standing()).unwrap_or(u16::MAX);
     let short = cause(room < tally.standing(), 14, standing);
     match call {
         Call::Add { ticket, program } => first(&[
             short,
-            cause(!is_able(shop, tally, program), 10, ticket.0),
+            cause(!tally.has_mill(program, |_| true), 10, ticket.0),
             cause(tally.mill_of(ticket).is_some(), 8, ticket.0),
             cause(ticket.0 > 1023, 7, ticket.0),
         ]),
@@ -30,73 +40,39 @@ pub fn due(shop: &Shop, tally: &Tally, call: Call, room: usize) -> Option<Told> 
         ]),
         Call::Withdraw { mill } => first(&[
             short,
-            stranded(shop, tally, mill),
+            stranded(tally, mill),
             cause(!tally.serves(mill), 12, u16::from(mill.0)),
-            cause(mill.0 >= shop.mills(), 11, u16::from(mill.0)),
+            cause(mill.0 >= mills, 11, u16::from(mill.0)),
         ]),
         Call::Return { mill } => first(&[
             short,
             cause(tally.serves(mill), 12, u16::from(mill.0)),
-            cause(mill.0 >= shop.mills(), 11, u16::from(mill.0)),
+            cause(mill.0 >= mills, 11, u16::from(mill.0)),
         ]),
     }
 }
 
 /// A cause, where it holds.
 fn cause(holds: bool, number: u8, place: u16) -> Option<Told> {
-    if holds {
-        Some(Told { number, place })
-    } else {
-        None
-    }
+    holds.then_some(Told { number, place })
 }
 
 /// The cause of the smallest number.
 fn first(causes: &[Option<Told>]) -> Option<Told> {
-    let mut first: Option<Told> = None;
-    for cause in causes {
-        first = match (first, *cause) {
-            (Some(one), Some(other)) if one.number <= other.number => Some(one),
-            (one, None) => one,
-            (_, other) => other,
-        };
-    }
-    first
-}
-
-/// Whether a mill in service is able for a program.
-fn is_able(shop: &Shop, tally: &Tally, program: Program) -> bool {
-    for mill in 0..shop.mills() {
-        if tally.takes(shop, program, Mill(mill)) {
-            return true;
-        }
-    }
-    false
-}
-
-/// Whether a mill other than this one is in service and able for a program.
-fn has_other(shop: &Shop, tally: &Tally, program: Program, mill: Mill) -> bool {
-    for other in 0..shop.mills() {
-        if Mill(other) != mill && tally.takes(shop, program, Mill(other)) {
-            return true;
-        }
-    }
-    false
+    causes
+        .iter()
+        .copied()
+        .flatten()
+        .min_by_key(|told| told.number)
 }
 
 /// The lowest ticket of a mill that has no other mill.
-fn stranded(shop: &Shop, tally: &Tally, mill: Mill) -> Option<Told> {
-    let mut lowest: Option<Ticket> = None;
-    for seat in tally.seats() {
-        if seat.mill == mill && !has_other(shop, tally, seat.program, mill) {
-            lowest = match lowest {
-                Some(ticket) if ticket.0 < seat.ticket.0 => Some(ticket),
-                _ => Some(seat.ticket),
-            };
-        }
-    }
-    match lowest {
-        Some(ticket) => cause(true, 13, ticket.0),
-        None => None,
-    }
+fn stranded(tally: &Tally, mill: Mill) -> Option<Told> {
+    tally
+        .seats()
+        .iter()
+        .filter(|seat| seat.mill == mill && !tally.has_mill(seat.program, |other| other != mill))
+        .map(|seat| seat.ticket.0)
+        .min()
+        .map(|place| Told { number: 13, place })
 }

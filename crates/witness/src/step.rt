@@ -3,11 +3,9 @@ use crate::compare::TICKETS;
 use crate::difference::Difference;
 use crate::loads::Loads;
 use crate::refusals::Told;
-use crate::shop::Shop;
 use crate::tally::Tally;
 use crate::{chains, refusals};
 use board::{Answer, Call, Move};
-use capability::Source;
 use vocabulary::{Mill, Program, Refusal, Ticket};
 
 /// What every entry of a list is before a call: a record of no ticket.
@@ -20,9 +18,8 @@ pub const UNWRITTEN: Move = Move {
 /// A call with its answer, its list and the tallies around it.
 #[derive(Drop)]
 pub struct Step<'a> {
-    pub shop: &'a Shop,
-    pub before: &'a Tally,
-    pub after: &'a Tally,
+    pub before: &'a Tally<'a>,
+    pub after: &'a Tally<'a>,
     pub call: Call,
     pub answer: Result<Answer, Refusal>,
     pub list: &'a [Move],
@@ -31,17 +28,9 @@ pub struct Step<'a> {
 impl Step<'_> {
     /// Whether the call was refused as it is due, and else did what its rule says.
     pub fn check(&self) -> Result<(), Difference> {
-        let told = match self.answer {
-            Ok(_) => None,
-            Err(refusal) => Some(Told {
-                number: refusal.number(),
-                place: refusal.place(),
-            }),
-        };
-        let due = refusals::due(self.shop, self.before, self.call, self.list.len());
-        if told != due {
-            return Err(Difference::Refused { told, due });
-        }
+        let told = self.answer.err().map(Told::from);
+        let due = refusals::due(self.before, self.call, self.list.len());
+        Difference::Refused { told, due }.unless(told == due)?;
         match self.answer {
             Ok(answer) => self.check_accepted(answer),
             Err(_) => self.check_unwritten(0),
@@ -76,19 +65,17 @@ impl Step<'_> {
     /// Whether the list has a record for each ticket that stands before and after on different mills, by rising ticket number,
     /// and nothing behind them.
     pub fn check_records(&self, told: u16) -> Result<(), Difference> {
-        let mut due = 0u16;
-        for number in 0..TICKETS {
-            if let Some(record) = self.record_of(Ticket(number)) {
-                match self.list.get(usize::from(due)) {
-                    Some(entry) if is_same(*entry, record) => {}
-                    _ => return Err(Difference::Record { entry: due }),
-                }
-                due = due.saturating_add(1);
-            }
-        }
-        if told != due {
-            return Err(Difference::Count { told, due });
-        }
+        let records: Vec<Move> = (0..TICKETS)
+            .filter_map(|number| self.record_of(Ticket(number)))
+            .collect(self.after.heap())?;
+        let due = records.len();
+        let entry = records
+            .iter()
+            .zip(self.list)
+            .take_while(|(record, entry)| record == entry)
+            .count();
+        Difference::Record { entry }.unless(entry == due)?;
+        Difference::Count { told, due }.unless(usize::from(told) == due)?;
         self.check_unwritten(told)
     }
 
@@ -96,32 +83,22 @@ impl Step<'_> {
     fn record_of(&self, ticket: Ticket) -> Option<Move> {
         let from = self.before.mill_of(ticket)?;
         let to = self.after.mill_of(ticket)?;
-        if from == to {
-            return None;
-        }
-        Some(Move { ticket, from, to })
+        (from != to).then_some(Move { ticket, from, to })
     }
 
     /// Whether the entries of the list from one on are as they were.
     fn check_unwritten(&self, first: u16) -> Result<(), Difference> {
-        let mut entry = first;
-        for record in self.list.iter().skip(usize::from(first)) {
-            if !is_same(*record, UNWRITTEN) {
-                return Err(Difference::Written { entry });
-            }
-            entry = entry.saturating_add(1);
+        let mut entries = self.list.iter().enumerate().skip(usize::from(first));
+        match entries.find(|(_, record)| **record != UNWRITTEN) {
+            Some((entry, _)) => Err(Difference::Written { entry }),
+            None => Ok(()),
         }
-        Ok(())
     }
 
     /// Whether fewer tickets moved than there are mills in service.
     fn check_few(&self, moved: u16) -> Result<(), Difference> {
         let serving = self.before.serving();
-        if moved < serving {
-            Ok(())
-        } else {
-            Err(Difference::TooMany { moved, serving })
-        }
+        Difference::TooMany { moved, serving }.unless(usize::from(moved) < serving)
     }
 
     /// Whether a chain was carried out to the mill of a finished ticket as the rule says.
@@ -173,12 +150,12 @@ impl Step<'_> {
         first: Mill,
         moved: u16,
     ) -> Result<(), Difference> {
-        let Some(due) = chains::to_place(self.shop, between, program) else {
+        let Some(due) = chains::to_place(between, program)? else {
             return Err(Difference::Kind);
         };
         check_length(moved, due.tickets)?;
         let mut loads = between.loads();
-        let end = self.end_from(first, moved);
+        let end = self.walk(first, moved, |record| (record.from, record.to));
         check_far_end(loads.at(end), due.load)?;
         loads.grow(end);
         self.check_loads(&loads)
@@ -188,12 +165,12 @@ impl Step<'_> {
     /// one; or none, where there is none.
     fn check_shifted(&self, between: &Tally, mill: Mill, moved: u16) -> Result<(), Difference> {
         let mut loads = between.loads();
-        let Some(due) = chains::to_shift(self.shop, between, mill) else {
+        let Some(due) = chains::to_shift(between, mill)? else {
             check_length(moved, 0)?;
             return self.check_loads(&loads);
         };
         check_length(moved, due.tickets)?;
-        let start = self.start_of(mill, moved);
+        let start = self.walk(mill, moved, |record| (record.to, record.from));
         check_far_end(loads.at(start), due.load)?;
         loads.shrink(start);
         loads.grow(mill);
@@ -202,49 +179,22 @@ impl Step<'_> {
 
     /// Whether the loads after the call are these.
     fn check_loads(&self, due: &Loads) -> Result<(), Difference> {
-        let loads = self.after.loads();
-        for mill in 0..self.shop.mills() {
-            if loads.at(Mill(mill)) != due.at(Mill(mill)) {
-                return Err(Difference::Loads);
-            }
-        }
-        Ok(())
+        Difference::Loads.unless(self.after.loads() == *due)
     }
 
-    /// The mill at the end of a chain of so many tickets that begins at a mill, by the records.
-    fn end_from(&self, first: Mill, tickets: u16) -> Mill {
-        let mut mill = first;
+    /// The mill to which a chain of so many tickets leads from a mill, where each record leads from one mill to another; a mill
+    /// that no record leads on from is its end.
+    fn walk<F: Fn(&Move) -> (Mill, Mill)>(&self, start: Mill, tickets: u16, way: F) -> Mill
+        requires { F.IsAlwaysCallable way }
+    {
+        let mut mill = start;
         for _ in 0..tickets {
-            mill = self.next_of(mill);
-        }
-        mill
-    }
-
-    /// The mill to which a ticket moved from a mill; the mill itself where none did.
-    fn next_of(&self, mill: Mill) -> Mill {
-        for record in self.list {
-            if record.from == mill {
-                return record.to;
-            }
-        }
-        mill
-    }
-
-    /// The mill at the start of a chain of so many tickets that ends at a mill, by the records.
-    fn start_of(&self, last: Mill, tickets: u16) -> Mill {
-        let mut mill = last;
-        for _ in 0..tickets {
-            mill = self.previous_of(mill);
-        }
-        mill
-    }
-
-    /// The mill from which a ticket moved to a mill; the mill itself where none did.
-    fn previous_of(&self, mill: Mill) -> Mill {
-        for record in self.list {
-            if record.to == mill {
-                return record.from;
-            }
+            mill = self
+                .list
+                .iter()
+                .map(|record| way(record))
+                .find(|(from, _)| *from == mill)
+                .map_or(mill, |(_, to)| to);
         }
         mill
     }
@@ -252,23 +202,10 @@ impl Step<'_> {
 
 /// Whether as many tickets moved as a chain of fewest tickets has.
 fn check_length(moved: u16, fewest: u16) -> Result<(), Difference> {
-    if moved == fewest {
-        Ok(())
-    } else {
-        Err(Difference::Chain { moved, fewest })
-    }
+    Difference::Chain { moved, fewest }.unless(moved == fewest)
 }
 
 /// Whether the far end of a chain had the load that the rule takes.
 fn check_far_end(load: u16, due: u16) -> Result<(), Difference> {
-    if load == due {
-        Ok(())
-    } else {
-        Err(Difference::FarEnd { load, due })
-    }
-}
-
-/// Whether two records are the same.
-fn is_same(one: Move, other: Move) -> bool {
-    one.ticket == other.ticket && one.from == other.from && one.to == other.to
+    Difference::FarEnd { load, due }.unless(load == due)
 }

@@ -1,4 +1,4 @@
-//! What stands where, as calls, answers and records tell it.
+//! What stands where in a shop, as calls, answers and records tell it.
 use crate::loads::Loads;
 use crate::shop::{MOST_MILLS, Shop};
 use board::{Answer, Call, Move};
@@ -14,17 +14,19 @@ pub struct Seat {
     pub mill: Mill,
 }
 
-/// The standing tickets, in the order in which they came, and the mills in service.
+/// A shop, the tickets that stand in it, in the order in which they came, and its mills in service.
 #[derive(Clone, Drop)]
-pub struct Tally {
+pub struct Tally<'a> {
+    shop: &'a Shop,
     seats: Vec<Seat>,
     service: [bool; MOST_MILLS],
 }
 
-impl Tally {
+impl<'a> Tally<'a> {
     /// No ticket stands, and every mill of a shop is in service.
-    pub fn open(heap: Global, shop: &Shop) -> Tally {
+    pub fn open(heap: Global, shop: &'a Shop) -> Tally<'a> {
         let mut tally = Tally {
+            shop,
             seats: Vec::new(heap),
             service: [false; MOST_MILLS],
         };
@@ -32,6 +34,16 @@ impl Tally {
             tally.serve(Mill(mill), true);
         }
         tally
+    }
+
+    /// The shop.
+    pub fn shop(&self) -> &'a Shop {
+        self.shop
+    }
+
+    /// Where the tally is kept.
+    pub fn heap(&self) -> Global {
+        *self.seats.allocator()
     }
 
     /// The standing tickets.
@@ -46,22 +58,15 @@ impl Tally {
 
     /// Where a ticket stands.
     pub fn mill_of(&self, ticket: Ticket) -> Option<Mill> {
-        for seat in self.seats.as_slice() {
-            if seat.ticket == ticket {
-                return Some(seat.mill);
-            }
-        }
-        None
+        self.seats
+            .iter()
+            .find(|seat| seat.ticket == ticket)
+            .map(|seat| seat.mill)
     }
 
     /// The ticket on a mill that came first.
     pub fn first_on(&self, mill: Mill) -> Option<Seat> {
-        for seat in self.seats.as_slice() {
-            if seat.mill == mill {
-                return Some(*seat);
-            }
-        }
-        None
+        self.seats.iter().find(|seat| seat.mill == mill).copied()
     }
 
     /// Whether a mill is in service.
@@ -73,23 +78,28 @@ impl Tally {
     }
 
     /// How many mills are in service.
-    pub fn serving(&self) -> u16 {
-        let mut count = 0u16;
-        for serves in self.service {
-            count = count.saturating_add(u16::from(serves));
-        }
-        count
+    pub fn serving(&self) -> usize {
+        self.service.iter().filter(|serves| **serves).count()
     }
 
     /// Whether a mill is one of the mills of a ticket of a program: in service, and able.
-    pub fn takes(&self, shop: &Shop, program: Program, mill: Mill) -> bool {
-        self.serves(mill) && shop.able(program, mill)
+    pub fn takes(&self, program: Program, mill: Mill) -> bool {
+        self.serves(mill) && self.shop.able(program, mill)
+    }
+
+    /// Whether a ticket of a program has a mill that is wanted.
+    pub fn has_mill<F: Fn(Mill) -> bool>(&self, program: Program, is_wanted: F) -> bool
+        requires { F.IsAlwaysCallable is_wanted }
+    {
+        (0..self.shop.mills())
+            .map(Mill)
+            .any(|mill| is_wanted(mill) && self.takes(program, mill))
     }
 
     /// The loads of the mills.
     pub fn loads(&self) -> Loads {
-        let mut loads = Loads::none();
-        for seat in self.seats.as_slice() {
+        let mut loads = Loads::default();
+        for seat in self.seats.iter() {
             loads.grow(seat.mill);
         }
         loads
@@ -103,25 +113,13 @@ impl Tally {
 
     /// Takes a ticket off its mill.
     pub fn take_off(&mut self, ticket: Ticket) {
-        let mut place = None;
-        for (index, seat) in self.seats.as_slice().iter().enumerate() {
-            if seat.ticket == ticket {
-                place = Some(index);
-            }
-        }
-        if let Some(index) = place
-            && index < self.seats.len()
-        {
-            self.seats.remove(index);
-        }
+        self.seats.retain(|seat| seat.ticket != ticket);
     }
 
     /// Moves a ticket to another mill.
     fn relocate(&mut self, ticket: Ticket, mill: Mill) {
-        for seat in self.seats.as_mut_slice().iter_mut() {
-            if seat.ticket == ticket {
-                seat.mill = mill;
-            }
+        if let Some(seat) = self.seats.iter_mut().find(|seat| seat.ticket == ticket) {
+            seat.mill = mill;
         }
     }
 
