@@ -75,7 +75,7 @@ module _ (before : Table) (mill : Mill) (off : Table) (same : meant off ≡ mean
 
 module _ (before : Table) (mill : Mill) (may : Acceptable (meant before) (tally_of before) (Return mill)) where
   pub returned_few : mill.0 < 64
-  returned_few = omega (arith, return_below (meant before) (tally_of before) mill may, before.few)
+  returned_few = omega (arith, return_below (meant before) (tally_of before) mill may, before.abilities.lawful.few)
 
   pub returned_completed : (back : Table) → meant back ≡ meant before → tally_of back ≡ serving (tally_of before) mill.0 true
       → (after : Table) → meant after ≡ meant back → Settled (meant back) mill.0 (tally_of back) (tally_of after)
