@@ -14,6 +14,7 @@ pub trait Source {
         ensures { result ≡ (meaning self.now).mills };
 
     /// Whether a mill can cut a program.
+    // Two arguments and no pair of them: their types tell them apart, and no caller has them as one value.
     fn able(&self, program: Program, mill: Mill) -> bool
         ensures { result ≡ (meaning self.now).able program.0 mill.0 };
 

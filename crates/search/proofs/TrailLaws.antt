@@ -4,7 +4,7 @@ use Rattle.std.proofs.lemmas.Bool.{cases_eq, lt-ltb, ne_eqb}
 use Rattle.std.proofs.lemmas.List.{get_or-map, length-map, length_push}
 use Rattle.sets.specs.Sets.{has, members, member}
 use Rattle.sets.specs.declared.number_set.NumberSet.{NumberSet}
-use Rattle.sets.proofs.Holds.{and_true}
+use Rattle.std.proofs.Math.Bool.{and-true}
 use Rattle.sets.proofs.Rising.{numbers-none, length-numbers_le, length-numbers-insert, member-append}
 use Rattle.vocabulary.specs.declared.numbers.Mill.{Mill}
 use Rattle.search.specs.declared.trail.Trail.{Trail}
@@ -33,7 +33,7 @@ or_swap false false = refl
 module _ (old new : NumberSet) (mill : ℕ) (below : mill < 64) (insert : (k : ℕ) → has new k ≡ ((eqb k mill && ltb mill 64) || has old k)) where
   inserted : (k : ℕ) → has new k ≡ (eqb k mill || has old k)
   inserted k =
-      insert k ∙ ap (λ b. (eqb k mill && b) || has old k) (lt-ltb mill 64 below) ∙ ap (λ b. b || has old k) (and_true (eqb k mill))
+      insert k ∙ ap (λ b. (eqb k mill && b) || has old k) (lt-ltb mill 64 below) ∙ ap (λ b. b || has old k) (and-true (eqb k mill))
 
   pub known_more : (queue : List ℕ) → ((k : ℕ) → has old k ≡ member k queue) → (k : ℕ) → has new k ≡ member k (queue ++ (mill ∷ []))
   known_more queue known k =

@@ -10,7 +10,7 @@ use vocabulary::Mill;
 /// The most tickets that there can be.
 pub(crate) const TICKETS: u16 = 1024;
 
-/// The most mills that there can be.
+/// The most mills that there can be. A `Mill` is any byte, as a call may name any, so clauses say where one is below this.
 const MILLS: usize = 64;
 
 /// The mills that a search has reached, in the order in which it reached them and as a set, and how it reached each: no link

@@ -9,6 +9,7 @@ use Rattle.std.specs.Bool.{Decides}
 use Rattle.std.proofs.lemmas.Nat.{and_le_l}
 use Rattle.std.proofs.lemmas.Bool.{cases_lt, lt-ltb, and_left, eq-eqb, eqb-true}
 use Rattle.std.proofs.lemmas.Bool.Decides.{nat_tests}
+use Rattle.std.proofs.Math.Bool.{and-true}
 use Rattle.sets.specs.Sets.{holds}
 
 -- ---- the lowest bit, and the others
@@ -116,14 +117,10 @@ holds_not (suc w) a (suc k) h =
     holds-next (2 ^ suc w - 1 - a) k ∙ ap (λ q. holds q k) half ∙ holds_not w (a / 2) k (half_below w a h)
     ∙ ap₂ (λ s t. s && not t) (sym (leb-suc-suc (suc k) w)) (sym (holds-next a k))
 
-pub and_true : (b : Bool) → (b && true) ≡ b
-and_true true = refl
-and_true false = refl
-
 pub holds-below : (n k : ℕ) → holds (2 ^ n - 1) k ≡ ltb k n
 holds-below n k =
     let less : 2 ^ n - 1 ≡ 2 ^ n - 1 - 0 = omega arith in
-    ap (λ q. holds q k) less ∙ holds_not n 0 k (pow_pos n) ∙ ap (λ t. ltb k n && not t) (holds-zero k) ∙ and_true (ltb k n)
+    ap (λ q. holds q k) less ∙ holds_not n 0 k (pow_pos n) ∙ ap (λ t. ltb k n && not t) (holds-zero k) ∙ and-true (ltb k n)
 
 -- `a & !b`, at 64 bits
 pub holds_and_not : (a b k : ℕ) → a < 2 ^ 64 → b < 2 ^ 64 → holds (bit_and a (2 ^ 64 - 1 - b)) k ≡ (holds a k && not (holds b k))

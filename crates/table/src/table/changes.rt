@@ -10,6 +10,8 @@ use crate::seat::Seat;
 use crate::table::Table;
 use vocabulary::{Mill, Ticket};
 
+// That the meaning stays relates a table to the one before it, so it is a clause of each change and no invariant of a table.
+
 impl Table {
     /// Seats a ticket that does not stand.
     pub fn put(&mut self, ticket: Ticket, seat: Seat)
