@@ -1,13 +1,12 @@
 -- What a frame is in a sheet, by the kind and the number of payload digits that the frame reader looks at.
 use Rattle.std.proofs.Common.{◌≡◌, ℕ, ◌-◌, ◌≤◌, Bool, true, false, ◌&&◌, eqb, leb, List, length, get_or, take, drop, Some, None, Ok, Err, sym, refl, ap, ◌∙◌, ⊎_elim}
 use Rattle.vocabulary.specs.declared.refusal.Refusal.{Refusal}
-use Rattle.vocabulary.specs.declared.refusal.Refusal.TheVariants.{NotDue}
-use Rattle.std.proofs.lemmas.List.{take_rest, nil_from_length}
+use Rattle.std.proofs.lemmas.List.{take_rest}
 use Rattle.std.proofs.lemmas.Bool.{cond-true, cond-false, eq-eqb, eqb-true, eqb-false, leb-true, le-leb, and_parts, and_from, cases_Bool}
 use Rattle.sheet.specs.Digits.{bytes_of}
 use Rattle.sheet.specs.Lines.{Lines, over, open_ended, line, lines_of}
 use Rattle.sheet.specs.Frames.{Frame, first_frame}
-use Rattle.sheet.specs.Sheets.{count, entry, item_of, and_then, first_item}
+use Rattle.sheet.specs.Sheets.{entry, item_of, and_then, first_item}
 use Rattle.sheet.proofs.ByteLaws.{bytes_drop}
 use Rattle.sheet.proofs.LineLaws.{text_of, text_again}
 
@@ -16,9 +15,6 @@ not_both : (a b : Bool) → (a ≡ true → b ≡ true → ⊥) → (a && b) ≡
 not_both a b never = ⊎_elim (λ both. let p = and_parts a b both in absurd (never p.0 p.1)) (λ e. e) (cases_Bool (a && b))
 
 module _ (f : Frame) where
-  pub item_count : f.kind ≡ 1 → length f.payload ≡ 1 → item_of f ≡ Some (count (get_or f.payload 0 0))
-  item_count k n = cond-true _ _ _ (and_from _ _ (eq-eqb _ _ k) (eq-eqb _ _ n))
-
   module _ (n1 : f.kind ≡ 1 → length f.payload ≡ 1 → ⊥) where
     not_count : (eqb f.kind 1 && eqb (length f.payload) 1) ≡ false
     not_count = not_both _ _ (λ a b. n1 (eqb-true _ _ a) (eqb-true _ _ b))
@@ -45,6 +41,3 @@ fault_in i text (line cs rest) e is some h = ap (λ r. and_then r (λ f. Ok (ite
 
 pub item_fault : (i : ℕ) (text : List ℕ) (e : Refusal) → eqb (length text) 0 ≡ false → first_frame i (lines_of text) ≡ Err e → first_item i (lines_of text) ≡ Err e
 item_fault i text e some h = fault_in i text (lines_of text) e refl some h
-
-pub item_over : (i : ℕ) (text : List ℕ) → eqb (length text) 0 ≡ true → first_item i (lines_of text) ≡ Err (NotDue i)
-item_over i text none = ap (λ t. first_item i (lines_of t)) (nil_from_length text (eqb-true (length text) 0 none))
