@@ -1,11 +1,14 @@
 -- The members of a program's row are the mills that a sheet lists for it, and its lines follow from them.
-use Rattle.std.proofs.Common.{◌≡◌, ℕ, zero, suc, ◌+◌, ◌*◌, ◌≤◌, Bool, true, false, cond, List, [], ◌∷◌, length, filter, sym, refl, ap, ◌∙◌, arith}
+use Rattle.std.proofs.Common.{◌≡◌, ℕ, zero, suc, ◌+◌, ◌*◌, ◌<◌, ◌≤◌, Bool, true, false, cond, List, [], ◌∷◌, length, filter, sym, refl, ap, ◌∙◌, ⊎_elim, slice_index_or, arith}
 use Rattle.std.specs.List.{range_with_len}
 use Rattle.std.proofs.lemmas.List.{nil_from_length}
+use Rattle.std.proofs.lemmas.Bool.{cases_lt}
 use Rattle.sets.specs.Sets.{numbers, has, members}
 use Rattle.sets.specs.declared.number_set.NumberSet.{NumberSet}
+use Rattle.sets.proofs.Rising.{length-numbers_le}
 use Rattle.capability.specs.Meaning.{Meaning, Lawful}
 use Rattle.capability.specs.Copied.{copied}
+use Rattle.capability.specs.Rows.{none}
 use Rattle.capability.specs.declared.abilities.Abilities.{Abilities}
 use Rattle.sheet.specs.Frames.{frame_text}
 use Rattle.sheet.specs.Written.{mills_for, entry_text}
@@ -58,3 +61,13 @@ module _ (abilities : Abilities) (p : ℕ) (row : NumberSet) (is : (k : ℕ) →
 
     pub payload_room : length (entry_of abilities p) ≡ 2 * (length payload + 3) + 1
     payload_room = omega (arith, ap length bytes, length_some some)
+
+-- the lines of a program hold no more than 64 mills
+pub entry_short : (abilities : Abilities) (p : ℕ) → length (entry_of abilities p) ≤ 137
+entry_short abilities p =
+    let row : NumberSet = slice_index_or abilities.rows p none in
+    let few = length-numbers_le (has row) 64 in
+    ⊎_elim
+    (λ (some : 0 < length (members row)). omega (arith, length_some abilities p row (λ k. refl) (λ e. omega arith)))
+    (λ (less : length (members row) ≤ 0). omega (arith, length_none abilities p row (λ k. refl) (omega arith)))
+    (cases_lt 0 (length (members row)))

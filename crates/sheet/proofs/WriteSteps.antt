@@ -1,8 +1,9 @@
 -- The steps of writing a sheet: one program more in the loops over programs, and the parts of the sheet one behind the other.
-use Rattle.std.proofs.Common.{◌≡◌, ℕ, zero, suc, ◌+◌, ◌<◌, ◌≤◌, List, [], ◌∷◌, ◌++◌, length, sym, refl, ap, ◌∙◌, ⊎_elim, add-one, arith}
-use Rattle.std.specs.List.{range_with_len, flat_map}
+use Rattle.std.proofs.Common.{◌*◌, ◌≡◌, ℕ, zero, suc, ◌+◌, ◌<◌, ◌≤◌, List, [], ◌∷◌, ◌++◌, length, sym, refl, ap, ◌∙◌, ⊎_elim, add-one, arith}
+use Rattle.std.specs.List.{range_with_len, flat_map, sum_by}
 use Rattle.std.proofs.lemmas.List.FromFn.{map-range_with_len_more}
 use Rattle.std.proofs.lemmas.List.{flat_map_more, length-append, map-id}
+use Rattle.std.proofs.lemmas.List.Sums.{sum_by_push}
 use Rattle.std.proofs.lemmas.Bool.{cases_lt}
 use Rattle.capability.specs.Meaning.{Meaning}
 use Rattle.capability.specs.Copied.{copied}
@@ -12,6 +13,7 @@ use Rattle.sheet.specs.Copies.{entry_of, entries_of, sheet_for}
 use Rattle.sheet.specs.Written.{mills_for, entry_text, count_text, end_text, entries_text}
 use Rattle.sheet.proofs.FrameLaws.{length_frame}
 use Rattle.sheet.proofs.ItemLaws.{count_frame, end_frame}
+use Rattle.sheet.proofs.RowLaws.{entry_short}
 
 -- ---- one program more
 
@@ -70,3 +72,17 @@ pub sheet_frames : (abilities : Abilities) (first mills last : ℕ) → first �
 sheet_frames abilities first mills last one count fifteen =
     (λ i. frame_text (record { kind = one i; payload = count i ∷ [] }) ++ (entries_of abilities 256 ++ frame_text (record { kind = fifteen i; payload = [] })))
     ∙ sym (sheet_parts abilities)
+
+-- the lengths of the lines of n programs
+pub sum_entries : (abilities : Abilities) (n : ℕ) → sum_by (λ q. length (entry_of abilities q)) (range_with_len 0 n) ≡ length (entries_of abilities n)
+sum_entries abilities zero = sym (length_entries_start abilities)
+sum_entries abilities (suc n) =
+    let f : ℕ → ℕ = λ q. length (entry_of abilities q) in
+    ap (λ k. sum_by f (range_with_len 0 k)) (sym (add-one n)) ∙ ap (sum_by f) (counting_more n) ∙ sum_by_push f (range_with_len 0 n) n
+    ∙ ap (λ k. k + length (entry_of abilities n)) (sum_entries abilities n)
+    ∙ sym (length_entries_next abilities n) ∙ ap (λ k. length (entries_of abilities k)) (add-one n)
+
+pub entries_short : (abilities : Abilities) (n : ℕ) → length (entries_of abilities n) ≤ 137 * n
+entries_short abilities zero = omega (arith, length_entries_start abilities)
+entries_short abilities (suc n) =
+    omega (arith, length_entries_next abilities n, entry_short abilities n, entries_short abilities n, ap (λ k. length (entries_of abilities k)) (add-one n))

@@ -28,12 +28,9 @@ fn entries_len(abilities: &Abilities) -> usize
     ensures value { result ≡ length (entries_of abilities.now 256) }
     ensures short { result ≤ 35072 }
 {
-    // Not `sum`: the library does not say what an inclusive range yields.
-    let mut entries = 0;
-    for program in 0..=255 {
-        entries += entry_len(abilities, Program(program));
-    }
-    entries
+    (0..256u16)
+        .map(|program| entry_len(abilities, Program(program as u8)))
+        .sum()
 }
 
 /// The length of a sheet: its first line, the lines of its programs and its last line.
