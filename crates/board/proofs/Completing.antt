@@ -1,6 +1,6 @@
 -- What finishing, withdrawing and returning do to a table, from what their parts do.
-use Rattle.std.proofs.Common.{◌≡◌, ◌+◌, ◌<◌, ◌≤◌, Bool, true, false, Some, None, sym, ap, ◌∙◌, subst₂, inl, inr, ⊎_elim, arith}
-use Rattle.std.proofs.lemmas.Bool.{cases_Bool}
+use Rattle.std.proofs.Common.{◌≡◌, ◌+◌, ◌<◌, ◌≤◌, Bool, true, false, eqb, Some, None, sym, refl, ap, ◌∙◌, subst₂, inl, inr, ⊎_elim}
+use Rattle.std.proofs.lemmas.Bool.{cases_Bool, cond-true, eq-eqb}
 use Rattle.sets.specs.Sets.{numbers}
 use Rattle.vocabulary.specs.declared.numbers.Mill.{Mill}
 use Rattle.vocabulary.specs.declared.numbers.Ticket.{Ticket}
@@ -15,7 +15,7 @@ use Rattle.board.specs.Causes.{Acceptable}
 use Rattle.board.specs.Completed.{Completed}
 use Rattle.board.specs.Rules.{Finished, cleared, PlacedAgain, Settled}
 use Rattle.board.specs.declared.call.Call.TheVariants.{Done, Withdraw, Return}
-use Rattle.board.proofs.Accepting.{return_below, return_out}
+use Rattle.board.proofs.Accepting.{return_out}
 use Rattle.board.proofs.EvenCalls.{finishing, withdrawing, returning}
 use Rattle.board.proofs.TallyLaws.{mill_at}
 
@@ -73,10 +73,12 @@ module _ (before : Table) (mill : Mill) (off : Table) (same : meant off ≡ mean
 
 -- ---- a mill is returned
 
-module _ (before : Table) (mill : Mill) (may : Acceptable (meant before) (tally_of before) (Return mill)) where
-  pub returned_few : mill.0 < 64
-  returned_few = omega (arith, return_below (meant before) (tally_of before) mill may, before.abilities.lawful.few)
+-- it is in service then, so it is below 64
+pub returned_few : (before back : Table) (mill : Mill) → tally_of back ≡ serving (tally_of before) mill.0 true → mill.0 < 64
+returned_few before back mill serves =
+    service_few back mill.0 (ap (λ tally. tally.service mill.0) serves ∙ cond-true (eqb mill.0 mill.0) true ((tally_of before).service mill.0) (eq-eqb mill.0 mill.0 refl))
 
+module _ (before : Table) (mill : Mill) (may : Acceptable (meant before) (tally_of before) (Return mill)) where
   pub returned_completed : (back : Table) → meant back ≡ meant before → tally_of back ≡ serving (tally_of before) mill.0 true
       → (after : Table) → meant after ≡ meant back → Settled (meant back) mill.0 (tally_of back) (tally_of after)
       → (Leaning (meant back) (tally_of back) mill.0 → EvenIn (meant after) (tally_of after)) → Completed before (Return mill) None after

@@ -7,7 +7,7 @@ pub open_mill-requires : goal.open_mill-requires
 open_mill-requires c = record { below = return_below (meant c.args.table.now) (tally_of c.args.table.now) c.args.mill c.requires }
 
 pub settle-requires : goal.settle-requires
-settle-requires c = returned_few c.args.table.now c.args.mill c.requires
+settle-requires c = returned_few c.args.table.now c.open_mill.new.self c.args.mill c.open_mill.ensures.tally
 
 pub returns : goal.returns
 returns c =
