@@ -1,10 +1,7 @@
 //! The shops that the cases are run on.
 use sheet::SheetSource;
 use std::alloc::{AllocError, Global};
-use tools::{Extent, MillRow, ProgramRow, ToolSource};
-
-/// No length at all: a blank of this size fits every travel.
-const NO_EXTENT: Extent = Extent { x: 0, y: 0, z: 0 };
+use tools::{MillRow, ProgramRow, ToolSource};
 
 /// How many programs there are.
 const PROGRAMS: usize = 256;
@@ -22,17 +19,9 @@ pub fn no_mills() -> SheetSource<'static> {
     SheetSource::new(b"")
 }
 
-/// So many mills, on each of which every program can be cut.
+/// So many mills, on each of which every program can be cut: no program needs a tool, and no blank has a length.
 pub fn able_everywhere(heap: Global, mills: usize) -> Result<ToolSource, AllocError> {
-    let mill = MillRow {
-        tools: 0,
-        travel: NO_EXTENT,
-    };
-    let program = ProgramRow {
-        tools: 0,
-        blank: NO_EXTENT,
-    };
-    let mills = vec![in heap; mill; mills]?;
-    let programs = vec![in heap; program; PROGRAMS]?;
+    let mills = vec![in heap; MillRow::default(); mills]?;
+    let programs = vec![in heap; ProgramRow::default(); PROGRAMS]?;
     ToolSource::new(heap, mills.as_slice(), programs.as_slice())
 }

@@ -13,9 +13,6 @@ const PROGRAMS: usize = 256;
 /// The length that only the outermost mills of a chain have room for.
 const LONG: u16 = 1;
 
-/// No length at all: a blank of this size fits every travel.
-const NO_EXTENT: Extent = Extent { x: 0, y: 0, z: 0 };
-
 /// A program that in the chain can be cut on mill 0 alone.
 pub const FIRST_ALONE: Program = Program(63);
 
@@ -49,11 +46,11 @@ fn chain_programs() -> [ProgramRow; 65] {
     array::from_fn(|number| match Program(number as u8) {
         FIRST_ALONE => long_program(Extent {
             x: LONG,
-            ..NO_EXTENT
+            ..Extent::default()
         }),
         LAST_ALONE => long_program(Extent {
             y: LONG,
-            ..NO_EXTENT
+            ..Extent::default()
         }),
         Program(own) => needing(1 << own),
     })
@@ -70,13 +67,13 @@ fn chain_mill(number: u8) -> MillRow {
     let travel = match number {
         0 => Extent {
             x: LONG,
-            ..NO_EXTENT
+            ..Extent::default()
         },
         63 => Extent {
             y: LONG,
-            ..NO_EXTENT
+            ..Extent::default()
         },
-        _ => NO_EXTENT,
+        _ => Extent::default(),
     };
     MillRow {
         tools: own | before,
@@ -96,7 +93,7 @@ pub fn crowded(heap: Global) -> Result<ToolSource, AllocError> {
 fn having(tools: u64) -> MillRow {
     MillRow {
         tools,
-        travel: NO_EXTENT,
+        ..MillRow::default()
     }
 }
 
@@ -104,7 +101,7 @@ fn having(tools: u64) -> MillRow {
 fn needing(tools: u64) -> ProgramRow {
     ProgramRow {
         tools,
-        blank: NO_EXTENT,
+        ..ProgramRow::default()
     }
 }
 

@@ -2,14 +2,11 @@
 use std::alloc::{AllocError, Global};
 use tools::{Extent, MillRow, ProgramRow, ToolSource};
 
-/// No length at all: every blank of this size fits, and it fits every travel.
-pub const NO_EXTENT: Extent = Extent { x: 0, y: 0, z: 0 };
-
 /// A mill that has these tools.
 pub fn mill_with(tools: u64) -> MillRow {
     MillRow {
         tools,
-        travel: NO_EXTENT,
+        ..MillRow::default()
     }
 }
 
@@ -17,7 +14,7 @@ pub fn mill_with(tools: u64) -> MillRow {
 pub fn program_with(tools: u64) -> ProgramRow {
     ProgramRow {
         tools,
-        blank: NO_EXTENT,
+        ..ProgramRow::default()
     }
 }
 

@@ -1,5 +1,5 @@
 //! The tool rule: lengths, tools, magazines and tables.
-use crate::shop::{NO_EXTENT, mill_with, plain_shop, program_with};
+use crate::shop::{mill_with, plain_shop, program_with};
 use crate::tell;
 use capability::Source;
 use std::io;
@@ -35,10 +35,10 @@ pub fn lengths(rt: &HostRuntime) -> io::Result<()> {
     let travel = Extent { x, y, z };
     for (what, blank) in [
         ("blank as long as the travel", travel),
-        ("no blank", NO_EXTENT),
-        ("as long on x alone", Extent { x, ..NO_EXTENT }),
-        ("as long on y alone", Extent { y, ..NO_EXTENT }),
-        ("as long on z alone", Extent { z, ..NO_EXTENT }),
+        ("no blank", Extent::default()),
+        ("as long on x alone", Extent { x, ..Extent::default() }),
+        ("as long on y alone", Extent { y, ..Extent::default() }),
+        ("as long on z alone", Extent { z, ..Extent::default() }),
         ("one over on x", Extent { x: 401, ..travel }),
         ("one over on y", Extent { y: 301, ..travel }),
         ("one over on z", Extent { z: 201, ..travel }),

@@ -11,7 +11,7 @@ use vocabulary::Refusal;
 pub mod source;
 
 /// Three lengths in whole millimetres.
-#[derive(Clone, Copy)]
+#[derive(Clone, Copy, Default)]
 pub struct Extent {
     pub x: u16,
     pub y: u16,
@@ -28,7 +28,7 @@ impl Extent {
 }
 
 /// A row of the mill table: the tools in a mill's magazine, bit 0 for tool 0, and the travel of its axes.
-#[derive(Clone, Copy)]
+#[derive(Clone, Copy, Default)]
 pub struct MillRow {
     // Bits, and no set: programs write their tables as constants, and a constant may call no function.
     pub tools: u64,
@@ -36,7 +36,7 @@ pub struct MillRow {
 }
 
 /// A row of the program table: the tools that a program needs, bit 0 for tool 0, and the lengths of its blank.
-#[derive(Clone, Copy)]
+#[derive(Clone, Copy, Default)]
 pub struct ProgramRow {
     // Bits, as in a row of the mill table.
     pub tools: u64,
