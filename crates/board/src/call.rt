@@ -23,3 +23,17 @@ pub enum Answer {
     Added { mill: Mill, count: u16 },
     Moved { count: u16 },
 }
+
+impl Answer {
+    ghost use Rattle.std.specs.Prelude.{◌≡◌};
+    ghost use Rattle.board.specs.Records.{count_in};
+
+    /// How many tickets the call moved.
+    pub fn count(self) -> u16
+        ensures { result ≡ count_in self }
+    {
+        match self {
+            Answer::Added { count, .. } | Answer::Moved { count } => count,
+        }
+    }
+}

@@ -2,7 +2,6 @@
 ghost use Rattle.std.specs.Iterator.{IsFinite};
 
 use crate::list::marked;
-use crate::tell;
 use board::{Answer, Board, Call};
 use std::io;
 use vocabulary::Refusal;
@@ -22,7 +21,7 @@ impl Sweep {
     /// Takes one answer in; a refusal counts for nothing.
     fn note(&mut self, answer: Result<Answer, Refusal>) {
         if let Ok(answer) = answer {
-            self.last = tell::count_in(answer);
+            self.last = answer.count();
             self.accepted = self.accepted.saturating_add(1);
             self.moved = self.moved.saturating_add(u32::from(self.last));
         }

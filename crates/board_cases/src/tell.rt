@@ -1,21 +1,9 @@
 //! How calls, answers and boards are told.
-ghost use Rattle.std.specs.Prelude.{◌≡◌};
-ghost use Rattle.board.specs.Records.{count_in};
-
 use crate::list::is_untouched;
 use board::{Answer, Board, Call, Move, Report};
 use std::io;
 use telling::Refused;
 use vocabulary::{Mill, Refusal, Ticket};
-
-/// How many tickets an accepted call moved. The timing of boards has the same few lines: a crate for one match is no plainer.
-pub fn count_in(answer: Answer) -> u16
-    ensures { result ≡ count_in answer }
-{
-    match answer {
-        Answer::Added { count, .. } | Answer::Moved { count } => count,
-    }
-}
 
 /// Tells what is asked, and with how long a list.
 pub fn asked(rt: &HostRuntime, call: Call, entries: usize) -> io::Result<()> {
@@ -43,7 +31,7 @@ pub fn accepted(rt: &HostRuntime, answer: Answer, list: &[Move]) -> io::Result<(
     if let Answer::Added { mill, .. } = answer {
         print!(rt; "mill {mill}, ")?;
     }
-    let count = count_in(answer);
+    let count = answer.count();
     match list.split_at_checked(usize::from(count)) {
         Some((written, rest)) => {
             let kept = if is_untouched(rest) {

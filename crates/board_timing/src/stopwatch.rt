@@ -1,6 +1,5 @@
 //! How long calls took, and what they did.
-ghost use Rattle.std.specs.Prelude.{◌≡◌, ◌≤◌};
-ghost use Rattle.board.specs.Records.{count_in};
+ghost use Rattle.std.specs.Prelude.{◌≤◌};
 
 use board::{Answer, Board, Call, Move};
 use std::time::Instant;
@@ -42,7 +41,7 @@ impl Stopwatch {
         self.worst = self.worst.max(nanos);
         if let Ok(answer) = answer {
             self.accepted = self.accepted.saturating_add(1);
-            self.moved = self.moved.saturating_add(u32::from(count_in(answer)));
+            self.moved = self.moved.saturating_add(u32::from(answer.count()));
         }
     }
 
@@ -58,15 +57,6 @@ impl Stopwatch {
             Micros(mean),
             Micros(self.worst)
         )
-    }
-}
-
-/// How many tickets an accepted call moved. The cases of boards have the same few lines: a crate for one match is no plainer.
-fn count_in(answer: Answer) -> u16
-    ensures { result ≡ count_in answer }
-{
-    match answer {
-        Answer::Added { count, .. } | Answer::Moved { count } => count,
     }
 }
 

@@ -19,10 +19,7 @@ fn moves_told(reply: Reply) -> usize
     ensures { result ≡ moves_told reply }
 {
     match reply {
-        Reply::Called {
-            answer: Answer::Added { count, .. } | Answer::Moved { count },
-            ..
-        } => usize::from(count),
+        Reply::Called { answer, .. } => usize::from(answer.count()),
         _ => 0,
     }
 }

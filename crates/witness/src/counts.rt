@@ -18,7 +18,7 @@ struct Accepted {
 impl Accepted {
     /// One call more.
     fn note(&mut self, answer: Answer) {
-        let (Answer::Added { count, .. } | Answer::Moved { count }) = answer;
+        let count = answer.count();
         self.calls = self.calls.saturating_add(1);
         self.moves = self.moves.saturating_add(u32::from(count));
         self.most = self.most.max(count);
