@@ -10,6 +10,8 @@ use crate::call::{Call, TICKETS};
 use table::Table;
 use vocabulary::{Mill, Program, Refusal, Ticket};
 
+// A table is of another crate, so what is asked of one here are functions and no methods.
+
 /// Whether a call with a move list of so many entries is accepted, or else why it is sent back.
 pub(crate) fn check_call(table: &Table, call: Call, room: usize) -> Result<(), Refusal>
     ensures { Judged (meant table.now) (tally_of table.now) room call result }

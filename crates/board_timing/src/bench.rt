@@ -4,7 +4,7 @@ use board::{Board, Call, Move, Report};
 use std::alloc::{AllocError, Global};
 use std::io;
 use tools::ToolSource;
-use vocabulary::{Mill, Program, Ticket};
+use vocabulary::{Program, Ticket};
 
 /// How many tickets there are, which is as long as a list need ever be.
 const TICKETS: usize = 1024;
@@ -19,12 +19,7 @@ pub struct Bench {
 impl Bench {
     /// A board that is just opened.
     pub fn open(heap: Global, source: ToolSource) -> Result<Bench, AllocError> {
-        let blank = Move {
-            ticket: Ticket(0),
-            from: Mill(0),
-            to: Mill(0),
-        };
-        let moves = vec![in heap; blank; TICKETS]?;
+        let moves = vec![in heap; Move::default(); TICKETS]?;
         Ok(Bench {
             board: Board::open(source),
             moves,
@@ -74,14 +69,4 @@ pub fn finishing(number: u16) -> Call {
     Call::Done {
         ticket: Ticket(number),
     }
-}
-
-/// The call that withdraws a mill.
-pub fn withdrawing(number: u8) -> Call {
-    Call::Withdraw { mill: Mill(number) }
-}
-
-/// The call that returns a mill.
-pub fn returning(number: u8) -> Call {
-    Call::Return { mill: Mill(number) }
 }

@@ -1,10 +1,11 @@
 //! The worst case: the mills in a row, so that a chain may have to run over all of them.
-use crate::bench::{Bench, adding, finishing, returning, withdrawing};
+use crate::bench::{Bench, adding, finishing};
 use crate::shop::{FIRST_ALONE, LAST_ALONE, chain};
 use crate::stopwatch::Stopwatch;
+use board::Call;
 use std::alloc::{AllocError, Global};
 use std::io;
-use vocabulary::Program;
+use vocabulary::{Mill, Program};
 
 /// The ticket that comes to mill 63 alone and goes.
 const LAST: u16 = 1023;
@@ -75,8 +76,8 @@ pub fn withdraw_and_return(rt: &HostRuntime) -> io::Result<()> {
     let mut withdrawals = Stopwatch::default();
     let mut returns = Stopwatch::default();
     for _ in 0..MILL_ROUNDS {
-        bench.time(rt, &mut withdrawals, withdrawing(1))?;
-        bench.time(rt, &mut returns, returning(1))?;
+        bench.time(rt, &mut withdrawals, Call::Withdraw { mill: Mill(1) })?;
+        bench.time(rt, &mut returns, Call::Return { mill: Mill(1) })?;
     }
     withdrawals.tell(rt, "chain, withdraw")?;
     returns.tell(rt, "chain, return")

@@ -1,10 +1,11 @@
 //! The usual case: every program can be cut on every mill.
-use crate::bench::{Bench, adding, finishing, returning, withdrawing};
+use crate::bench::{Bench, adding, finishing};
 use crate::shop::connected;
 use crate::stopwatch::Stopwatch;
+use board::Call;
 use std::alloc::{AllocError, Global};
 use std::io;
-use vocabulary::Program;
+use vocabulary::{Mill, Program};
 
 /// The ticket that comes and goes; all before it stand.
 const LAST: u16 = 1023;
@@ -42,8 +43,8 @@ pub fn withdraw_and_return(rt: &HostRuntime) -> io::Result<()> {
     let mut withdrawals = Stopwatch::default();
     let mut returns = Stopwatch::default();
     for _ in 0..MILL_ROUNDS {
-        bench.time(rt, &mut withdrawals, withdrawing(0))?;
-        bench.time(rt, &mut returns, returning(0))?;
+        bench.time(rt, &mut withdrawals, Call::Withdraw { mill: Mill(0) })?;
+        bench.time(rt, &mut returns, Call::Return { mill: Mill(0) })?;
     }
     withdrawals.tell(rt, "connected, withdraw")?;
     returns.tell(rt, "connected, return")

@@ -1,9 +1,11 @@
 //! The worst case for a mill that comes back: most tickets wait on one mill, each has to be fetched by a search of its own, and
 //! every search goes over all mills.
-use crate::bench::{Bench, returning, withdrawing};
+use crate::bench::Bench;
 use crate::shop::{CROWDED, ELSEWHERE, crowded};
 use crate::stopwatch::Stopwatch;
+use board::Call;
 use std::io;
+use vocabulary::Mill;
 
 /// How often the mill comes back and goes.
 const ROUNDS: u32 = 5;
@@ -17,15 +19,15 @@ const TICKETS: u16 = 1024;
 /// Mill 1 is away while all tickets come; then it comes back and goes again.
 pub fn return_and_withdraw(rt: &HostRuntime) -> io::Result<()> {
     let mut bench = Bench::open(rt.alloc(), crowded(rt.alloc())?)?;
-    bench.prepare(withdrawing(1));
+    bench.prepare(Call::Withdraw { mill: Mill(1) });
     bench.prepare_tickets(0, ALONE, ELSEWHERE);
     bench.prepare_tickets(ALONE, TICKETS - ALONE, CROWDED);
     bench.tell(rt, "crowded, 1024 tickets")?;
     let mut returns = Stopwatch::default();
     let mut withdrawals = Stopwatch::default();
     for _ in 0..ROUNDS {
-        bench.time(rt, &mut returns, returning(1))?;
-        bench.time(rt, &mut withdrawals, withdrawing(1))?;
+        bench.time(rt, &mut returns, Call::Return { mill: Mill(1) })?;
+        bench.time(rt, &mut withdrawals, Call::Withdraw { mill: Mill(1) })?;
     }
     returns.tell(rt, "crowded, return")?;
     withdrawals.tell(rt, "crowded, withdraw")

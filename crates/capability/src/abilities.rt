@@ -10,6 +10,7 @@ use vocabulary::{Mill, Program};
 
 /// What a source means, copied: the count of mills, and for each program the set of mills that are able for it.
 /// As of any source, it is lawful.
+// An array by the number of a program: nothing under a board allocates.
 #[derive(Clone, Copy)]
 pub struct Abilities {
     mills: u8,

@@ -1,6 +1,8 @@
 //! Frames written as lines, for lists that are too long to be spelled out.
 use std::alloc::{AllocError, Global};
 
+// A kind is a bare byte here: these lines are written from the formats, and not by the kinds of the code that they test.
+
 /// Adds the line of a frame to a text. A payload of over 255 bytes has no count byte of its own, and gets the low byte of its length.
 pub fn push_frame(text: &mut String, kind: u8, payload: &[u8]) -> Result<(), AllocError> {
     let count = (payload.len() % 256) as u8;

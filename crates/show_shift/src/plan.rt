@@ -36,14 +36,9 @@ const CALLS: [Call; 9] = [
 
 /// The calls of the shift, each with a move list.
 pub fn requests(heap: Global) -> Result<Vec<Request>, AllocError> {
-    let blank = Move {
-        ticket: Ticket(0),
-        from: Mill(0),
-        to: Mill(0),
-    };
     let mut requests = Vec::new(heap);
     for call in CALLS {
-        requests.push(Request::new(call, vec![in heap; blank; ROOM]?))?;
+        requests.push(Request::new(call, vec![in heap; Move::default(); ROOM]?))?;
     }
     Ok(requests)
 }

@@ -20,6 +20,7 @@ pub const MILLS: usize = 64;
 
 /// The table of a board. Every standing ticket is on a mill that is able for its program and in service, the loads are the
 /// numbers of tickets on the mills, and only mills below the count, of which abilities have at most 64, are in service.
+// Arrays by the number of a ticket or a mill: nothing under a board allocates.
 #[derive(Clone, Copy)]
 pub struct Table {
     abilities: Abilities,
