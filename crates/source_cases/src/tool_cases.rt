@@ -36,9 +36,27 @@ pub fn lengths(rt: &HostRuntime) -> io::Result<()> {
     for (what, blank) in [
         ("blank as long as the travel", travel),
         ("no blank", Extent::default()),
-        ("as long on x alone", Extent { x, ..Extent::default() }),
-        ("as long on y alone", Extent { y, ..Extent::default() }),
-        ("as long on z alone", Extent { z, ..Extent::default() }),
+        (
+            "as long on x alone",
+            Extent {
+                x,
+                ..Extent::default()
+            },
+        ),
+        (
+            "as long on y alone",
+            Extent {
+                y,
+                ..Extent::default()
+            },
+        ),
+        (
+            "as long on z alone",
+            Extent {
+                z,
+                ..Extent::default()
+            },
+        ),
         ("one over on x", Extent { x: 401, ..travel }),
         ("one over on y", Extent { y: 301, ..travel }),
         ("one over on z", Extent { z: 201, ..travel }),
