@@ -18,6 +18,7 @@ pub enum Call {
 }
 
 /// What an accepted call answers: how many tickets it moved, and of an added ticket the mill that it stands on.
+// No struct with an `Option` of a mill: the two cases say which calls tell one.
 #[derive(Clone, Copy, PartialEq, Eq, Debug)]
 pub enum Answer {
     Added { mill: Mill, count: u16 },

@@ -15,7 +15,8 @@ use search::{place, shift};
 use table::Table;
 use vocabulary::{Mill, Ticket};
 
-// That a call may be accepted, and that the meaning stays, are facts of two values, so they are clauses and no type's invariant.
+// That a call may be accepted, and that the meaning stays, are facts of two values, so they are clauses and no type's invariant. As
+// in `refusals` these are functions: a table is of another crate.
 
 /// Does what an accepted call asks for, and tells the mill of an added ticket.
 pub(crate) fn carry_out(table: &mut Table, call: Call) -> Option<Mill>

@@ -19,6 +19,7 @@ pub fn marked(heap: Global, entries: usize) -> Result<Vec<Move>, AllocError> {
 }
 
 /// Whether no entry was written.
+// One call of `all`, on a marker of its own, as in the other programs of cases: a shared function would be longer.
 pub fn is_untouched(entries: &[Move]) -> bool
     ensures { result ≡ true → Untouched entries.now }
 {

@@ -12,6 +12,7 @@ const MILLS: usize = 64;
 /// Where each ticket stood, how many tickets each mill had, and the report.
 #[derive(Drop, PartialEq, Eq)]
 pub struct Snapshot {
+    // Arrays by number: compared whole by the derived `==`.
     places: [Option<Mill>; TICKETS],
     loads: [u16; MILLS],
     report: Report,

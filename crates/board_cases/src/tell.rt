@@ -1,6 +1,6 @@
 //! How calls, answers and boards are told.
 use crate::list::is_untouched;
-use board::{Answer, Board, Call, Move, Report};
+use board::{Answer, Board, Call, Move};
 use std::io;
 use telling::Refused;
 use vocabulary::{Mill, Refusal, Ticket};
@@ -57,12 +57,7 @@ fn records(rt: &HostRuntime, records: &[Move]) -> io::Result<()> {
 
 /// Tells the report of a board.
 pub fn report<S>(rt: &HostRuntime, board: &Board<S>) -> io::Result<()> {
-    let Report {
-        highest_load,
-        busy_mills,
-        flow_time,
-    } = board.report();
-    println!(rt; "highest load {highest_load}, {busy_mills} busy mills, flow time {flow_time}")
+    println!(rt; "{}", board.report())
 }
 
 /// Tells where a ticket stands.

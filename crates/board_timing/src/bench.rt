@@ -1,6 +1,6 @@
 //! A board with a move list that suits every call.
 use crate::stopwatch::Stopwatch;
-use board::{Board, Call, Move, Report};
+use board::{Board, Call, Move};
 use std::alloc::{AllocError, Global};
 use std::io;
 use tools::ToolSource;
@@ -27,8 +27,26 @@ impl Bench {
     }
 
     /// Performs a call and takes its time.
-    pub fn time(&mut self, rt: &HostRuntime, watch: &mut Stopwatch, call: Call) -> io::Result<()> {
+    fn time(&mut self, rt: &HostRuntime, watch: &mut Stopwatch, call: Call) -> io::Result<()> {
         watch.take(rt, &mut self.board, call, self.moves.as_mut_slice())
+    }
+
+    /// Performs pairs of calls in turn, so many times, and takes the times of the first ones and of the second ones.
+    pub fn rounds(
+        &mut self,
+        rt: &HostRuntime,
+        rounds: u32,
+        pairs: &[(Call, Call)],
+    ) -> io::Result<(Stopwatch, Stopwatch)> {
+        let mut firsts = Stopwatch::default();
+        let mut seconds = Stopwatch::default();
+        for _ in 0..rounds {
+            for (first, second) in pairs {
+                self.time(rt, &mut firsts, *first)?;
+                self.time(rt, &mut seconds, *second)?;
+            }
+        }
+        Ok((firsts, seconds))
     }
 
     /// Performs a call without taking its time; what it does shows in the calls after it.
@@ -45,14 +63,7 @@ impl Bench {
 
     /// Tells the report of the board.
     pub fn tell(&self, rt: &HostRuntime, what: &str) -> io::Result<()> {
-        let Report {
-            highest_load,
-            busy_mills,
-            flow_time,
-        } = self.board.report();
-        println!(rt;
-            "{what}: highest load {highest_load}, {busy_mills} busy mills, flow time {flow_time}"
-        )
+        println!(rt; "{what}: {}", self.board.report())
     }
 }
 

@@ -1,7 +1,6 @@
 //! The worst case: the mills in a row, so that a chain may have to run over all of them.
 use crate::bench::{Bench, adding, finishing};
 use crate::shop::{FIRST_ALONE, LAST_ALONE, chain};
-use crate::stopwatch::Stopwatch;
 use board::Call;
 use std::alloc::{AllocError, Global};
 use std::io;
@@ -39,14 +38,11 @@ fn even_row(heap: Global, load: u16) -> Result<Bench, AllocError> {
 pub fn add_and_done(rt: &HostRuntime) -> io::Result<()> {
     let mut bench = even_row(rt.alloc(), 16)?;
     bench.tell(rt, "chain, 1024 tickets")?;
-    let mut adds = Stopwatch::default();
-    let mut dones = Stopwatch::default();
-    for _ in 0..ROUNDS {
-        bench.time(rt, &mut dones, finishing(LAST))?;
-        bench.time(rt, &mut adds, adding(LAST, FIRST_ALONE))?;
-        bench.time(rt, &mut dones, finishing(LAST))?;
-        bench.time(rt, &mut adds, adding(LAST, LAST_ALONE))?;
-    }
+    let pairs = [
+        (finishing(LAST), adding(LAST, FIRST_ALONE)),
+        (finishing(LAST), adding(LAST, LAST_ALONE)),
+    ];
+    let (dones, adds) = bench.rounds(rt, ROUNDS, &pairs)?;
     adds.tell(rt, "chain, add that moves a ticket of each mill")?;
     dones.tell(rt, "chain, done that moves none")
 }
@@ -56,14 +52,11 @@ pub fn done_along_it(rt: &HostRuntime) -> io::Result<()> {
     let mut bench = even_row(rt.alloc(), 15)?;
     bench.prepare(adding(FIRST, FIRST_ALONE));
     bench.tell(rt, "chain, 961 tickets")?;
-    let mut adds = Stopwatch::default();
-    let mut dones = Stopwatch::default();
-    for _ in 0..ROUNDS {
-        bench.time(rt, &mut dones, finishing(LAST))?;
-        bench.time(rt, &mut adds, adding(LAST, LAST_ALONE))?;
-        bench.time(rt, &mut dones, finishing(FIRST))?;
-        bench.time(rt, &mut adds, adding(FIRST, FIRST_ALONE))?;
-    }
+    let pairs = [
+        (finishing(LAST), adding(LAST, LAST_ALONE)),
+        (finishing(FIRST), adding(FIRST, FIRST_ALONE)),
+    ];
+    let (dones, adds) = bench.rounds(rt, ROUNDS, &pairs)?;
     dones.tell(rt, "chain, done that moves a ticket of each mill")?;
     adds.tell(rt, "chain, add that moves none")
 }
@@ -73,12 +66,9 @@ pub fn withdraw_and_return(rt: &HostRuntime) -> io::Result<()> {
     let mut bench = even_row(rt.alloc(), 16)?;
     bench.prepare(finishing(LAST));
     bench.tell(rt, "chain, 1023 tickets")?;
-    let mut withdrawals = Stopwatch::default();
-    let mut returns = Stopwatch::default();
-    for _ in 0..MILL_ROUNDS {
-        bench.time(rt, &mut withdrawals, Call::Withdraw { mill: Mill(1) })?;
-        bench.time(rt, &mut returns, Call::Return { mill: Mill(1) })?;
-    }
+    let mill = Mill(1);
+    let pairs = [(Call::Withdraw { mill }, Call::Return { mill })];
+    let (withdrawals, returns) = bench.rounds(rt, MILL_ROUNDS, &pairs)?;
     withdrawals.tell(rt, "chain, withdraw")?;
     returns.tell(rt, "chain, return")
 }

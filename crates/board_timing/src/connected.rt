@@ -1,7 +1,6 @@
 //! The usual case: every program can be cut on every mill.
 use crate::bench::{Bench, adding, finishing};
 use crate::shop::connected;
-use crate::stopwatch::Stopwatch;
 use board::Call;
 use std::alloc::{AllocError, Global};
 use std::io;
@@ -27,12 +26,8 @@ fn nearly_full(heap: Global) -> Result<Bench, AllocError> {
 pub fn add_and_done(rt: &HostRuntime) -> io::Result<()> {
     let mut bench = nearly_full(rt.alloc())?;
     bench.tell(rt, "connected, 1023 tickets")?;
-    let mut adds = Stopwatch::default();
-    let mut dones = Stopwatch::default();
-    for _ in 0..ROUNDS {
-        bench.time(rt, &mut adds, adding(LAST, Program(0)))?;
-        bench.time(rt, &mut dones, finishing(LAST))?;
-    }
+    let pairs = [(adding(LAST, Program(0)), finishing(LAST))];
+    let (adds, dones) = bench.rounds(rt, ROUNDS, &pairs)?;
     adds.tell(rt, "connected, add")?;
     dones.tell(rt, "connected, done")
 }
@@ -40,12 +35,9 @@ pub fn add_and_done(rt: &HostRuntime) -> io::Result<()> {
 /// Mill 0 goes and comes back.
 pub fn withdraw_and_return(rt: &HostRuntime) -> io::Result<()> {
     let mut bench = nearly_full(rt.alloc())?;
-    let mut withdrawals = Stopwatch::default();
-    let mut returns = Stopwatch::default();
-    for _ in 0..MILL_ROUNDS {
-        bench.time(rt, &mut withdrawals, Call::Withdraw { mill: Mill(0) })?;
-        bench.time(rt, &mut returns, Call::Return { mill: Mill(0) })?;
-    }
+    let mill = Mill(0);
+    let pairs = [(Call::Withdraw { mill }, Call::Return { mill })];
+    let (withdrawals, returns) = bench.rounds(rt, MILL_ROUNDS, &pairs)?;
     withdrawals.tell(rt, "connected, withdraw")?;
     returns.tell(rt, "connected, return")
 }

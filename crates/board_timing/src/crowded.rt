@@ -2,7 +2,6 @@
 //! every search goes over all mills.
 use crate::bench::Bench;
 use crate::shop::{CROWDED, ELSEWHERE, crowded};
-use crate::stopwatch::Stopwatch;
 use board::Call;
 use std::io;
 use vocabulary::Mill;
@@ -19,16 +18,13 @@ const TICKETS: u16 = 1024;
 /// Mill 1 is away while all tickets come; then it comes back and goes again.
 pub fn return_and_withdraw(rt: &HostRuntime) -> io::Result<()> {
     let mut bench = Bench::open(rt.alloc(), crowded(rt.alloc())?)?;
-    bench.prepare(Call::Withdraw { mill: Mill(1) });
+    let mill = Mill(1);
+    bench.prepare(Call::Withdraw { mill });
     bench.prepare_tickets(0, ALONE, ELSEWHERE);
     bench.prepare_tickets(ALONE, TICKETS - ALONE, CROWDED);
     bench.tell(rt, "crowded, 1024 tickets")?;
-    let mut returns = Stopwatch::default();
-    let mut withdrawals = Stopwatch::default();
-    for _ in 0..ROUNDS {
-        bench.time(rt, &mut returns, Call::Return { mill: Mill(1) })?;
-        bench.time(rt, &mut withdrawals, Call::Withdraw { mill: Mill(1) })?;
-    }
+    let pairs = [(Call::Return { mill }, Call::Withdraw { mill })];
+    let (returns, withdrawals) = bench.rounds(rt, ROUNDS, &pairs)?;
     returns.tell(rt, "crowded, return")?;
     withdrawals.tell(rt, "crowded, withdraw")
 }

@@ -89,6 +89,8 @@ pub fn crowded(heap: Global) -> Result<ToolSource, AllocError> {
     ToolSource::new(heap, &mills, &[needing(0b01), needing(0b10)])
 }
 
+// A struct update each, as in the cases of sources: no crate for the two.
+
 /// A mill that has these tools.
 fn having(tools: u64) -> MillRow {
     MillRow {

@@ -27,6 +27,7 @@ impl Abilities {
     {
         let mills = source.mills();
         let mut rows = [NumberSet::empty(); 256];
+        // No `array::from_fn`: what a closure gives in a generic function is not known outside it.
         for (program, row) in rows.iter_mut().enumerate() {
             *row = row_of(source, Program(program as u8), mills);
         }

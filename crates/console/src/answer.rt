@@ -14,6 +14,8 @@ use wire::{AREA, Reply, put_reply};
 /// As many tickets as there can be, so that every call has room for its records.
 const TICKETS: usize = 1024;
 
+// The console goes in and out by value, as in `lines`.
+
 impl<S: Source> Console<S> {
     /// A console over a source that nothing was asked of.
     pub fn new(source: S) -> Console<S>
@@ -46,8 +48,8 @@ fn answer_into<S: Source>(console: Console<S>, line: &[u8], area: &mut [u8]) -> 
     ensures written { Written (S.Source.meaning (below console)) (state_of console) line.now area.old (state_of result.0) (Ok result.1) area.new }
 {
     let mut moves = [Move::default(); TICKETS];
-    let (console, done) = obey_line(console, line, &mut moves);
-    let reply = done.unwrap_or_else(Reply::from);
+    let (console, answered) = obey_line(console, line, &mut moves);
+    let reply = answered.unwrap_or_else(Reply::from);
     let length = put_reply(area, reply, &moves);
     (console, length)
 }

@@ -27,6 +27,7 @@ fn on_one_line(heap: Global, text: &[u8]) -> Result<String, AllocError> {
 
 /// Whether every byte is the marker.
 fn is_untouched(bytes: &[u8]) -> bool {
+    // As in the other programs of cases: one call, on a marker of its own.
     bytes.iter().all(|byte| *byte == MARKER)
 }
 

@@ -17,6 +17,7 @@ pub(crate) struct Entry {
 
 /// A source that answers for some programs as another, which it holds, answers for their aliases. At most 32 programs have one.
 /// A program without an alias is itself, and an alias of an alias is not followed.
+// Why this is no generic layer stands at `Table`.
 #[derive(Drop)]
 pub struct Aliases<S> {
     source: S,

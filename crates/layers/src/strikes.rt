@@ -16,6 +16,7 @@ pub(crate) struct Pair {
 }
 
 /// A source without some of the pairs of another, which it holds. At most 32 pairs are struck.
+// Why this is no generic layer stands at `Table`.
 #[derive(Drop)]
 pub struct Strikes<S> {
     pub(crate) source: S,

@@ -15,6 +15,9 @@ use crate::trail::{TICKETS, Trail};
 use table::Table;
 use vocabulary::{Mill, Ticket};
 
+// That the meaning stays is a fact of the table before and after, so it is a clause. A trail holds no reference to its table, since
+// the table is changed along it.
+
 impl Trail {
     /// Reaches the mill on which a ticket stands that may go to `towards`, if it is not reached yet.
     fn visit_back(&mut self, table: &Table, ticket: Ticket, towards: Mill)

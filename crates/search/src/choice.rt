@@ -1,5 +1,5 @@
 //! The choice among mills by their loads.
-ghost use Rattle.std.specs.Prelude.{◌≡◌, ℕ, ◌<◌, Bool, map, length};
+ghost use Rattle.std.specs.Prelude.{ℕ, ◌<◌, Bool, map, length};
 ghost use Rattle.std.specs.Cmp.{IsStrictWeakOrder};
 ghost use Rattle.table.specs.Held.{tally_of};
 ghost use Rattle.search.specs.Firsts.{Computes, First};
@@ -9,6 +9,7 @@ use table::Table;
 use vocabulary::Mill;
 
 /// The first of some mills whose load no other's beats.
+// No `min_by_key`: that it gives the first is not promised, and of the greatest `max_by_key` gives the last.
 pub(crate) fn first_best<F: Fn(u16, u16) -> bool>(table: &Table, mills: &[Mill], beats: F) -> Mill
     requires some { 0 < length mills.now }
     requires callable { F.IsAlwaysCallable beats }

@@ -15,6 +15,9 @@ use sets::NumberSet;
 use table::{Seat, Table};
 use vocabulary::{Mill, Program, Ticket};
 
+// That the meaning stays is a fact of the table before and after, so it is a clause. A trail holds no reference to its table, since
+// the table is changed along it.
+
 impl Trail {
     /// Reaches those of some mills that are not reached yet, in rising order; stops at the first that is empty, and tells so.
     fn visit(&mut self, table: &Table, mills: NumberSet, link: Option<Link>) -> bool
@@ -32,6 +35,8 @@ impl Trail {
         false
     }
 }
+
+// A ticket and its program are two arguments, as they are two fields of a call.
 
 /// Reaches the mills that a ticket which is to be placed could come to by chains, nearest first; ends at the first empty mill,
 /// and when no mill in service is left.

@@ -7,7 +7,7 @@ use arrayvec::ArrayVec;
 use sets::NumberSet;
 use vocabulary::Mill;
 
-/// The most tickets that there can be.
+/// The most tickets that there can be. A `Ticket` may be any number, so clauses say where one is below this.
 pub(crate) const TICKETS: u16 = 1024;
 
 /// The most mills that there can be. A `Mill` is any byte, as a call may name any, so clauses say where one is below this.
@@ -19,6 +19,7 @@ const MILLS: usize = 64;
 pub(crate) struct Trail {
     pub(crate) queue: ArrayVec<Mill, MILLS>,
     pub(crate) reached: NumberSet,
+    // An array by the number of a mill: nothing under a board allocates.
     links: [Option<Link>; MILLS],
     ghost known: { (m : ℕ) → has reached m ≡ member m (map (λ mill. mill.0) queue.items) },
     ghost below: { (m : ℕ) → has reached m ≡ true → m < 64 },

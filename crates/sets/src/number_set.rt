@@ -43,6 +43,7 @@ impl NumberSet {
     }
 
     /// The numbers whose bits are 1, bit 0 for the number 0.
+    // No `From`: the name says that the bits of a number are read.
     pub fn from_bits(bits: u64) -> NumberSet
         ensures { (k : ℕ) → has result k ≡ holds bits k }
     {

@@ -5,6 +5,7 @@ ghost use Rattle.sheet.specs.Digits.{digit_of, byte_of, bytes_of, all_digits};
 ghost use Rattle.sheet.specs.Content.{left};
 
 /// The number of a digit; nothing of another character.
+// No `char::to_digit`: a lower-case letter is no digit here.
 pub(crate) fn digit_value(c: char) -> Option<u8>
     ensures { result ≡ digit_of c }
 {

@@ -15,6 +15,7 @@ fn digit_for(n: u8) -> u8
 }
 
 /// The sum of bytes, less the multiples of 256.
+// `byte_sum` sums what digits write; one function for both would take an iterator, and be no shorter.
 fn sum_of(bytes: &[u8]) -> u8
     ensures { result ≡ sum bytes.now % 256 }
 {
@@ -31,13 +32,13 @@ pub struct FrameWriter<'a> {
 }
 
 impl<'a> FrameWriter<'a> {
-    /// A writer at the front of an area.
-    pub fn new(area: &'a mut [u8]) -> FrameWriter<'a>
-        ensures front { result.at ≡ 0 }
+    /// A writer at a place of an area.
+    pub fn new(area: &'a mut [u8], at: usize) -> FrameWriter<'a>
+        ensures place { result.at ≡ at }
         ensures area { result.area.now ≡ area.old }
         ensures same_area { result.area.ghost_name ≡ area.entry.ghost_name }
     {
-        FrameWriter { area, at: 0 }
+        FrameWriter { area, at }
     }
 
     /// How much of the area is written.
@@ -48,6 +49,7 @@ impl<'a> FrameWriter<'a> {
     }
 
     /// Writes a frame as a line, and nothing else.
+    // A kind and a payload are together in this call alone.
     pub fn frame(&mut self, kind: u8, payload: &[u8])
         requires few { length payload.now ≤ 255 }
         requires room { HasRoom (2 * (length payload.now + 3) + 1) self.old }

@@ -61,6 +61,8 @@ fn split_line(text: &[u8]) -> Option<(&[u8], &[u8])>
     Some((&text[..end], &text[end + 1..]))
 }
 
+// A text and the number of its line go in as two: the number is only what a refusal tells, and the sheet reader alone keeps it.
+
 /// The frame on the first line of a text, and the text behind that line.
 pub fn first_frame(text: &[u8], line: u16) -> Result<(RawFrame<'_>, &[u8]), Refusal>
     ensures { MatchResult result (λ x. Taken line text.now (content x.0) x.1.now) (λ e. first_frame line (lines_of text.now) ≡ Err e) }

@@ -63,6 +63,7 @@ fn mills_of(text: &[u8], program: Program) -> &[u8]
         if entry.program == program {
             return entry.mills;
         }
+        // By the number: an order of programs would serve this place alone.
         if entry.program.0 > program.0 {
             break;
         }

@@ -53,6 +53,8 @@ fn payload_of(program: Program, row: NumberSet) -> ArrayVec<u8, 65>
     payload
 }
 
+// Frames are written and abilities read, so they are two: a struct of both would only be passed on.
+
 /// Writes the lines of a program, and nothing else.
 fn put_entry(frames: &mut FrameWriter<'_>, abilities: &Abilities, program: Program)
     requires { HasRoom (length (entry_of abilities.now program.0)) frames.old }
@@ -92,7 +94,7 @@ fn put_sheet(area: &mut [u8], abilities: &Abilities) -> usize
     ensures long { result ≡ length (sheet_for abilities.now) }
     ensures text { area.new ≡ put 0 (sheet_for abilities.now) area.old }
 {
-    let mut frames = FrameWriter::new(area);
+    let mut frames = FrameWriter::new(area, 0);
     put_lines(&mut frames, abilities);
     frames.written()
 }

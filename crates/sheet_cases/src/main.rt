@@ -24,6 +24,7 @@ fn spelled(heap: Global, line: &[u8]) -> Result<Vec<u8>, AllocError> {
 
 /// Whether every byte is the filler.
 fn all_filler(bytes: &[u8]) -> bool {
+    // As in the other programs of cases: one call, on a marker of its own.
     bytes.iter().all(|b| *b == FILLER)
 }
 

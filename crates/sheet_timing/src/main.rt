@@ -12,6 +12,7 @@ use vocabulary::{Mill, Program};
 const ROUNDS: u32 = 20;
 
 /// Asks for a program on each of 64 mills, and tells how many are able.
+// One chain, in two programs that share no crate.
 fn able_mills<S: Source>(source: &S, program: Program) -> usize {
     (0..64)
         .filter(|number| source.able(program, Mill(*number)))

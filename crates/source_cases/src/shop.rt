@@ -1,6 +1,8 @@
 //! The shop that the cases are run on.
 use std::alloc::{AllocError, Global};
-use tools::{Extent, MillRow, ProgramRow, ToolSource};
+use tools::{MillRow, ProgramRow, ToolSource};
+
+// A struct update each, as in the timing of boards: no crate for the two.
 
 /// A mill that has these tools.
 pub fn mill_with(tools: u64) -> MillRow {

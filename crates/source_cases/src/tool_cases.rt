@@ -122,6 +122,7 @@ pub fn magazines(rt: &HostRuntime) -> io::Result<()> {
 }
 
 /// How many pairs of program 0 a source has able, of all the mills that can be named.
+// One chain, in two programs that share no crate.
 fn able_mills(source: &ToolSource) -> usize {
     (0..=255)
         .filter(|number| source.able(Program(0), Mill(*number)))

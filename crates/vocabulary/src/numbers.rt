@@ -16,7 +16,8 @@ pub struct Program(pub u8);
 #[derive(Clone, Copy, Default, PartialEq, Eq, Debug)]
 pub struct Mill(pub u8);
 
-// Three alike: no macro here may write an impl, and a derive that prints a newtype is not at hand.
+// Three alike: no macro here may write an impl, and the derive of `thiserror` would make errors of them and promise nothing of what
+// is printed.
 
 impl fmt::Display for Ticket {
     ghost output = { λ ticket. Some (decimal ticket.0) };

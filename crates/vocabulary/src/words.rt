@@ -9,6 +9,7 @@ impl fmt::Display for Refusal {
 }
 
 /// What went wrong, as one phrase.
+// Written out: the derive of `thiserror` would put these phrases among the cases that every proof reads.
 fn words(refusal: Refusal) -> &'static str {
     match refusal {
         Refusal::BadLine { .. } => {

@@ -16,6 +16,7 @@ pub enum Reply {
     /// The alias is set.
     Aliased,
     /// The command is refused.
+    // A refusal is a reply too, and no `Err`: it is written as a line like the others.
     Refused { refusal: Refusal },
 }
 

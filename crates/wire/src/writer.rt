@@ -110,6 +110,8 @@ fn put_moves(frames: &mut FrameWriter<'_>, moves: &[Move])
     }
 }
 
+// A reply and its records are two: the records lie in the list of the caller.
+
 /// Writes all lines of an answer, and nothing else.
 fn put_lines(frames: &mut FrameWriter<'_>, reply: Reply, moves: &[Move])
     requires { HasRoom (21 + 15 * length moves.now) frames.old }
@@ -127,7 +129,7 @@ fn put_text(area: &mut [u8], reply: Reply, moves: &[Move]) -> usize
     ensures short { result ≤ 21 + 15 * length moves.now }
     ensures text { area.new ≡ (frame_text (reply_frame reply) ++ moves_text moves.now) ++ drop result area.old }
 {
-    let mut frames = FrameWriter::new(area);
+    let mut frames = FrameWriter::new(area, 0);
     put_lines(&mut frames, reply, moves);
     frames.written()
 }

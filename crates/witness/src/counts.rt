@@ -18,7 +18,8 @@ struct Accepted {
 impl Accepted {
     /// One call more.
     fn note(&mut self, answer: Answer) {
-        let count = answer.count();
+        // The witness takes nothing of the board's but its calls and questions.
+        let (Answer::Added { count, .. } | Answer::Moved { count }) = answer;
         self.calls = self.calls.saturating_add(1);
         self.moves = self.moves.saturating_add(u32::from(count));
         self.most = self.most.max(count);
@@ -44,6 +45,7 @@ pub struct Counts {
     withdrawals: Accepted,
     returns: Accepted,
     /// How many calls were refused with each number; the number is the place in the table.
+    // An array by the number of a refusal: few entries, known beforehand.
     refused: [u32; NUMBERS],
 }
 

@@ -80,7 +80,7 @@ pub enum Difference {
 
 impl Difference {
     /// This difference, unless what it denies holds.
-    pub fn unless(self, holds: bool) -> Result<(), Difference> {
+    pub(crate) fn unless(self, holds: bool) -> Result<(), Difference> {
         if holds { Ok(()) } else { Err(self) }
     }
 }

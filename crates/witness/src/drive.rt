@@ -116,6 +116,7 @@ impl Bench<'_> {
 }
 
 /// Asks a board for a call, by the method that each call has for itself, so that each of them is witnessed.
+// The cases of boards have the same few lines: a witness shares nothing with them.
 fn perform(board: &mut Board<Shop>, call: Call, list: &mut [Move]) -> Result<Answer, Refusal> {
     match call {
         Call::Add { ticket, program } => board.add(ticket, program, list),
@@ -154,6 +155,7 @@ pub fn drive_all(rt: &HostRuntime) -> io::Result<Counts> {
     let mut seed = 1u64;
     for course in COURSES {
         for _ in 0..course.boards {
+            // The seed goes on from one course to the next, so it is counted here.
             drive_board(rt, seed, course, &mut counts)?;
             seed = seed.saturating_add(1);
         }

@@ -6,6 +6,7 @@ use vocabulary::Mill;
 /// The number of tickets on each mill.
 #[derive(Clone, Copy, Default, PartialEq, Eq)]
 pub struct Loads {
+    // An array by the number of a mill: few entries, known beforehand, and copied whole.
     tickets: [u16; MOST_MILLS],
 }
 

@@ -16,6 +16,7 @@ const PAIRS: usize = 2048;
 #[derive(Clone, Copy)]
 pub struct Shop {
     mills: u8,
+    // One flat table: what the shop means is said of one list.
     pairs: [bool; PAIRS],
     ghost few: { mills ≤ 8 },
 }

@@ -65,16 +65,14 @@ impl Step<'_> {
     /// Whether the list has a record for each ticket that stands before and after on different mills, by rising ticket number,
     /// and nothing behind them.
     pub fn check_records(&self, told: u16) -> Result<(), Difference> {
-        let records: Vec<Move> = (0..TICKETS)
-            .filter_map(|number| self.record_of(Ticket(number)))
-            .collect(self.after.heap())?;
-        let due = records.len();
-        let entry = records
-            .iter()
-            .zip(self.list)
-            .take_while(|(record, entry)| record == entry)
+        let mut list = self.list.iter();
+        let records = (0..TICKETS).filter_map(|number| self.record_of(Ticket(number)));
+        for (entry, record) in records.enumerate() {
+            Difference::Record { entry }.unless(list.next() == Some(&record))?;
+        }
+        let due = (0..TICKETS)
+            .filter(|number| self.record_of(Ticket(*number)).is_some())
             .count();
-        Difference::Record { entry }.unless(entry == due)?;
         Difference::Count { told, due }.unless(usize::from(told) == due)?;
         self.check_unwritten(told)
     }

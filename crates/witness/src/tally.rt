@@ -19,6 +19,7 @@ pub struct Seat {
 pub struct Tally<'a> {
     shop: &'a Shop,
     seats: Vec<Seat>,
+    // An array by the number of a mill: few entries, known beforehand.
     service: [bool; MOST_MILLS],
 }
 
@@ -37,13 +38,8 @@ impl<'a> Tally<'a> {
     }
 
     /// The shop.
-    pub fn shop(&self) -> &'a Shop {
+    pub(crate) fn shop(&self) -> &'a Shop {
         self.shop
-    }
-
-    /// Where the tally is kept.
-    pub fn heap(&self) -> Global {
-        *self.seats.allocator()
     }
 
     /// The standing tickets.
@@ -88,7 +84,7 @@ impl<'a> Tally<'a> {
     }
 
     /// Whether a ticket of a program has a mill that is wanted.
-    pub fn has_mill<F: Fn(Mill) -> bool>(&self, program: Program, is_wanted: F) -> bool
+    pub(crate) fn has_mill<F: Fn(Mill) -> bool>(&self, program: Program, is_wanted: F) -> bool
         requires { F.IsAlwaysCallable is_wanted }
     {
         (0..self.shop.mills())
