@@ -22,6 +22,7 @@ pub(crate) fn obey<P>(
             let answer = board.perform(call, moves)?;
             Ok(Reply::Called { call, answer })
         }
+        // The mill is taken apart by a match, which says both answers side by side.
         BoardCommand::Where { ticket } => match board.where_is(ticket) {
             Some(mill) => Ok(Reply::Stands { mill }),
             None => Err(Refusal::NotStanding { ticket }),
