@@ -1,5 +1,6 @@
 //! What was asked and answered, in words.
 use board::{Answer, Board, Call, Move, Report, Request};
+use capability::Source;
 use std::io;
 use telling::Refused;
 use vocabulary::Mill;
@@ -41,15 +42,12 @@ fn moved(rt: &HostRuntime, moves: &[Move], count: u16) -> io::Result<()> {
     Ok(())
 }
 
-/// Tells the loads, and the report on all of them.
-pub fn end<S>(rt: &HostRuntime, board: &Board<S>) -> io::Result<()> {
+/// Tells the load of each mill of the shop, and the report on all of them.
+pub fn end<S: Source>(rt: &HostRuntime, board: &Board<S>) -> io::Result<()> {
     println!(rt; "at the end:")?;
-    for number in 0..64 {
+    for number in 0..board.source().mills() {
         let mill = Mill(number);
-        let load = board.load(mill);
-        if load > 0 {
-            println!(rt; "  mill {mill} has load {load}")?;
-        }
+        println!(rt; "  mill {mill} has load {}", board.load(mill))?;
     }
     let Report {
         highest_load,
