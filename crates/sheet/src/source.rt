@@ -53,6 +53,7 @@ fn front_entry(text: &[u8]) -> (Entry<'_>, &[u8])
 
 /// The digits of the mills that a lawful sheet lists for a program: none where it does not list the program.
 /// It steps from frame to frame by the count bytes, and decodes nothing else of the frames that it skips but their programs.
+// The source keeps the text only, so this is gone over anew for each question, in its own rising order.
 fn mills_of(text: &[u8], program: Program) -> &[u8]
     requires { is_ok (sheet_of text.now) ≡ true }
     ensures { bytes_of result.now ≡ mills_for (meaning_of (sheet_of text.now)) program.0 }

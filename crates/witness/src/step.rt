@@ -203,6 +203,8 @@ fn check_length(moved: u16, fewest: u16) -> Result<(), Difference> {
     Difference::Chain { moved, fewest }.unless(moved == fewest)
 }
 
+// Each is one line, for a difference of its own.
+
 /// Whether the far end of a chain had the load that the rule takes.
 fn check_far_end(load: u16, due: u16) -> Result<(), Difference> {
     Difference::FarEnd { load, due }.unless(load == due)
