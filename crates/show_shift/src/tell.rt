@@ -1,6 +1,5 @@
 //! What was asked and answered, in words.
 use board::{Answer, Board, Call, Move, Report, Request};
-use capability::Source;
 use std::io;
 use telling::Refused;
 use vocabulary::Mill;
@@ -42,12 +41,15 @@ fn moved(rt: &HostRuntime, moves: &[Move], count: u16) -> io::Result<()> {
     Ok(())
 }
 
-/// Tells the load of each mill of the shop, and the report on all of them.
-pub fn end<S: Source>(rt: &HostRuntime, board: &Board<S>) -> io::Result<()> {
+/// Tells the loads, and the report on all of them.
+pub fn end<S>(rt: &HostRuntime, board: &Board<S>) -> io::Result<()> {
     println!(rt; "at the end:")?;
-    for number in 0..board.source().mills() {
+    for number in 0..64 {
         let mill = Mill(number);
-        println!(rt; "  mill {mill} has load {}", board.load(mill))?;
+        let load = board.load(mill);
+        if load > 0 {
+            println!(rt; "  mill {mill} has load {load}")?;
+        }
     }
     let Report {
         highest_load,
