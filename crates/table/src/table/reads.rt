@@ -67,6 +67,10 @@ impl Table {
     pub fn standing(&self) -> u16
         ensures { result ≡ standing (tally_of self.now) }
     {
-        self.seats.iter().filter(|seat| seat.is_some()).count() as u16
+        // A sum, and no count of what passes a test: it takes no branch for each seat, and each accepted call asks for it.
+        self.seats
+            .iter()
+            .map(|seat| u16::from(seat.is_some()))
+            .sum()
     }
 }
