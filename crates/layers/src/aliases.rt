@@ -56,10 +56,13 @@ impl<S> Aliases<S> {
     fn alias_of(&self, program: Program) -> Program
         ensures { result.0 ≡ alias_of (held self.now.table) program.0 }
     {
-        self.table
-            .iter()
-            .find(|entry| entry.program == program)
-            .map_or(program, |entry| entry.cut_as)
+        // A loop, and no chain: over a chain that finds, the longest table takes half as long again.
+        for entry in self.table.iter() {
+            if entry.program == program {
+                return entry.cut_as;
+            }
+        }
+        program
     }
 }
 
