@@ -1,7 +1,7 @@
 -- A text that is written over an area piece by piece: one piece behind the other is the two as one piece.
-use Rattle.std.proofs.Common.{◌≡◌, ℕ, ◌+◌, ◌<◌, ◌≤◌, List, [], ◌∷◌, ◌++◌, length, take, drop, set, sym, refl, ap, ◌∙◌, add-zero, zero-add, add-one}
+use Rattle.std.proofs.Common.{◌≡◌, ℕ, ◌+◌, ◌<◌, ◌≤◌, List, [], ◌∷◌, ◌++◌, length, take, drop, set, sym, refl, ap, ◌∙◌, add-zero, zero-add, add-one, arith}
 use lib.Seq.{paste}
-use Rattle.std.proofs.lemmas.List.Edits.{paste_all, paste-paste}
+use Rattle.std.proofs.lemmas.List.Edits.{length-paste, paste_all, paste-paste}
 use Rattle.std.proofs.lemmas.List.{length-append, set_split, take-append-drop}
 use Rattle.sheet.specs.Area.{put}
 
@@ -28,3 +28,14 @@ put-put place next first second area room e =
 pub put_one : (place c : ℕ) (area : List ℕ) → place < length area → set area place c ≡ put place (c ∷ []) area
 unfolding put
 put_one place c area room = set_split area place c room ∙ ap (λ n. take place area ++ c ∷ drop n area) (sym (add-one place))
+
+pub length-put : (place : ℕ) (text area : List ℕ) → place + length text ≤ length area → length (put place text area) ≡ length area
+length-put place text area room =
+    ap length (sym (put_paste place text area (length text) refl)) ∙ length-paste area place text (length text) room (omega arith)
+
+pub put_two : (place c d : ℕ) (area : List ℕ) → place + 2 ≤ length area → set (set area place c) (place + 1) d ≡ put place (c ∷ d ∷ []) area
+put_two place c d area room =
+    let first = put_one place c area (omega arith) in
+    ap (λ a. set a (place + 1) d) first
+    ∙ put_one (place + 1) d (put place (c ∷ []) area) (omega (arith, length-put place (c ∷ []) area (omega arith)))
+    ∙ put-put place (place + 1) (c ∷ []) (d ∷ []) area (omega arith) refl

@@ -79,8 +79,11 @@ impl<'a> FrameWriter<'a> {
         requires { HasRoom 2 self.old }
         ensures { Appends (digits_for byte) self.old self.new }
     {
-        self.character(digit_for(byte / 16));
-        self.character(digit_for(byte % 16));
+        // Both digits at once: the place is read and written once a byte.
+        let FrameWriter { area, at } = self;
+        area[*at] = digit_for(byte / 16);
+        area[*at + 1] = digit_for(byte % 16);
+        *at += 2;
     }
 
     /// Writes a character, and nothing else.
