@@ -18,7 +18,7 @@ fn two_mills() -> Shop {
 }
 
 /// The tally of tickets 0 and 1 on two mills.
-fn pair_on(heap: Global, shop: &Shop, first: u8, second: u8) -> Result<Tally<'_>, AllocError> {
+fn pair_on(heap: Global, shop: &Shop, first: u8, second: u8) -> Result<Tally, AllocError> {
     let mut tally = Tally::open(heap, shop);
     for (ticket, mill) in [(0, first), (1, second)] {
         tally.put(Seat {

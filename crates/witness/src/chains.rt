@@ -49,13 +49,17 @@ fn least_key<K: Ord + Copy, F: Fn(Mill, Mill, u16) -> Option<K>>(
     for length in 1..=mills {
         let tickets = u16::from(length).saturating_sub(1);
         for number in 0..u32::from(mills).saturating_pow(u32::from(length)) {
-            let mut row: ArrayVec<Mill, MOST_MILLS> = ArrayVec::new();
-            row.extend(Digits::of(number, mills).take(usize::from(length)))?;
-            if let (Some(first), Some(last)) = (row.first(), row.last())
-                && let Some(key) = key(*first, *last, tickets)
-                && is_chain(tally, row.as_slice())
+            let digits = Digits::of(number, mills);
+            // Most rows have no key, and those are not written out.
+            let (mut front, mut back) = (digits, digits);
+            if let (Some(first), Some(last)) = (front.next(), back.nth(usize::from(tickets)))
+                && let Some(key) = key(first, last, tickets)
             {
-                best = Some(best.map_or(key, |best| best.min(key)));
+                let mut row: ArrayVec<Mill, MOST_MILLS> = ArrayVec::new();
+                row.extend(digits.take(usize::from(length)))?;
+                if is_chain(tally, row.as_slice()) {
+                    best = Some(best.map_or(key, |best| best.min(key)));
+                }
             }
         }
     }

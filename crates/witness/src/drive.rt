@@ -69,14 +69,14 @@ const TOLD: u32 = 10;
 
 /// A board, beside it what stands where as its calls tell it, and what its calls are drawn from.
 #[derive(Drop)]
-struct Bench<'a> {
+struct Bench {
     board: Board<Shop>,
-    tally: Tally<'a>,
+    tally: Tally,
     random: Random,
     tickets: u8,
 }
 
-impl Bench<'_> {
+impl Bench {
     /// Draws a call, and most often another one for one that is to be refused.
     fn draw(&mut self) -> Call {
         let shop = self.tally.shop();

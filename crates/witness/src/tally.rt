@@ -16,18 +16,18 @@ pub struct Seat {
 
 /// A shop, the tickets that stand in it, in the order in which they came, and its mills in service.
 #[derive(Clone, Drop)]
-pub struct Tally<'a> {
-    shop: &'a Shop,
+pub struct Tally {
+    shop: Shop,
     seats: Vec<Seat>,
     // An array by the number of a mill: few entries, known beforehand.
     service: [bool; MOST_MILLS],
 }
 
-impl<'a> Tally<'a> {
+impl Tally {
     /// No ticket stands, and every mill of a shop is in service.
-    pub fn open(heap: Global, shop: &'a Shop) -> Tally<'a> {
+    pub fn open(heap: Global, shop: &Shop) -> Tally {
         let mut tally = Tally {
-            shop,
+            shop: *shop,
             seats: Vec::new(heap),
             service: [false; MOST_MILLS],
         };
@@ -38,8 +38,8 @@ impl<'a> Tally<'a> {
     }
 
     /// The shop.
-    pub(crate) fn shop(&self) -> &'a Shop {
-        self.shop
+    pub(crate) fn shop(&self) -> &Shop {
+        &self.shop
     }
 
     /// The standing tickets.
