@@ -1,10 +1,9 @@
 //! What a sheet means, line by line.
-use capability::Source;
+use capability::{Abilities, Source};
 use sheet::{SheetSource, check, write_sheet};
-use std::alloc::{AllocError, Global};
 use std::io;
 use telling::Refused;
-use vocabulary::{Mill, Program, Refusal};
+use vocabulary::{Program, Refusal};
 
 /// Tells what was found in a text: what the sheet means and that it was written back, or why it is refused.
 pub fn report(rt: &HostRuntime, text: &[u8]) -> io::Result<()> {
@@ -21,11 +20,13 @@ pub fn report(rt: &HostRuntime, text: &[u8]) -> io::Result<()> {
 }
 
 /// Tells each program that some mill can cut, with its mills, and gives the number of able pairs.
+// The mills are read off a copy of what the source means, which asks each pair once and allocates nothing.
 fn programs<S: Source>(rt: &HostRuntime, source: &S) -> io::Result<usize> {
+    let abilities = Abilities::of(source);
     let mut pairs = 0usize;
     for number in 0..=255 {
         let program = Program(number);
-        let mills = able_mills(rt.alloc(), source, program)?;
+        let mills = abilities.row(program);
         if !mills.is_empty() {
             print!(rt; "program {program} can be cut on:")?;
             for mill in mills.iter() {
@@ -33,21 +34,9 @@ fn programs<S: Source>(rt: &HostRuntime, source: &S) -> io::Result<usize> {
             }
             println!(rt; "")?;
         }
-        pairs = pairs.saturating_add(mills.len());
+        pairs = pairs.saturating_add(usize::from(mills.count()));
     }
     Ok(pairs)
-}
-
-/// The mills that are able for a program.
-fn able_mills<S: Source>(
-    heap: Global,
-    source: &S,
-    program: Program,
-) -> Result<Vec<Mill>, AllocError> {
-    (0..source.mills())
-        .map(|number| Mill(number))
-        .filter(|mill| source.able(program, *mill))
-        .collect(heap)
 }
 
 /// Writes the sheet of a source, and tells whether it is the text that the source was read from.

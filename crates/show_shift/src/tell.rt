@@ -1,6 +1,9 @@
 //! What was asked and answered, in words.
+ghost use Rattle.std.specs.Prelude.{◌++◌, Some, codes};
+ghost use Rattle.std.specs.Fmt.{decimal};
+
 use board::{Answer, Board, Call, Move, Report, Request};
-use std::io;
+use std::{fmt, io};
 use telling::Refused;
 use vocabulary::Mill;
 
@@ -51,10 +54,23 @@ pub fn end<S>(rt: &HostRuntime, board: &Board<S>) -> io::Result<()> {
             println!(rt; "  mill {mill} has load {load}")?;
         }
     }
-    let Report {
-        highest_load,
-        busy_mills,
-        flow_time,
-    } = board.report();
-    println!(rt; "  highest load {highest_load}, busy mills {busy_mills}, flow time {flow_time}")
+    println!(rt; "  {}", InWords(board.report()))
+}
+
+/// A report in this program's own words, which are not those of its `Display`.
+#[derive(Clone, Copy)]
+struct InWords(Report);
+
+impl fmt::Display for InWords {
+    ghost output = { λ words. Some (codes "highest load " ++ decimal words.0.highest_load ++ codes ", busy mills " ++ decimal words.0.busy_mills ++ codes ", flow time " ++ decimal words.0.flow_time) };
+
+    fn fmt<W: fmt::Write>(&self, f: &mut fmt::Formatter<W>) -> fmt::Result {
+        let highest = self.0.highest_load;
+        let busy = self.0.busy_mills;
+        let flow = self.0.flow_time;
+        write!(
+            f,
+            "highest load {highest}, busy mills {busy}, flow time {flow}"
+        )
+    }
 }
