@@ -1,6 +1,6 @@
 -- What is left of an even board when a call begins.
 use Rattle.std.proofs.Common.{◌≡◌, ℕ, ◌+◌, ◌<◌, ◌≤◌, Bool, true, false, cond, ◌&&◌, eqb, ◌⊎◌, Some, None, Option, sym, refl, ap, ◌∙◌, subst, inl, inr, ⊎_elim, arith}
-use Rattle.std.proofs.lemmas.Bool.{false≢true, true≢false, cases_eq, cond-true, cond-false, eq-eqb, ne_eqb}
+use Rattle.std.proofs.lemmas.Bool.{false≢true, true≢false, cases_eq, cond-true, cond-false, cond_both, eq-eqb, ne_eqb}
 use Rattle.capability.specs.Meaning.{Meaning}
 use Rattle.semimatching.specs.Placements.{Placement, stands_on, load}
 use Rattle.semimatching.specs.Prices.{position}
@@ -116,6 +116,13 @@ withdrawing meaning before sound even v =
 module _ (meaning : Meaning) (before : Tally) (r : ℕ) where
   abbrev back : Tally
   back = serving before r true
+
+  pub sound_returned : Sound meaning before → Sound meaning (serving before r true)
+  sound_returned sound t m low on =
+      let fits = sound t m low on in
+      let serves = serves_of meaning before.service (before.seat t) m fits.1 in
+      let still : back.service m ≡ true = cond_both (eqb m r) true (before.service m) (λ b. b ≡ true) (λ e. refl) (λ e. serves) in
+      (fits.0, of_service meaning back.service before.service (before.seat t) m (still ∙ sym serves) ∙ fits.1)
 
   back_able : (t m : ℕ) → mill_of meaning back.service (before.seat t) m ≡ true → (mill_of meaning before.service (before.seat t) m ≡ true) ⊎ (m ≡ r)
   back_able t m may =

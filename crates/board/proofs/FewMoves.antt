@@ -1,12 +1,12 @@
 -- What placing and shifting by the rules leave: a sound tally, in which fewer tickets have moved than mills are in service.
-use Rattle.std.proofs.Common.{◌≡◌, ℕ, ◌<◌, Bool, true, false, cond, eqb, List, [], ◌∷◌, length, is_some, Some, None, Option, sym, refl, ap, ◌∙◌, subst, ⊎_elim, arith}
+use Rattle.std.proofs.Common.{◌≡◌, ℕ, ◌<◌, Bool, true, false, cond, eqb, List, [], ◌∷◌, length, is_some, Some, None, Option, sym, refl, ap, ◌∙◌, subst, subst₂, ⊎_elim, arith}
 use Rattle.std.proofs.lemmas.Bool.{true≢false, cases_eq, cond-true, cond-false, cond_both, eq-eqb, ne_eqb}
 use Rattle.capability.specs.Meaning.{Meaning}
 use Rattle.semimatching.specs.Chains.{Step, Linked, mills_on, Chain, moved, carried}
 use Rattle.semimatching.specs.Placements.{Shop, Placement, SemiMatching}
 use Rattle.semimatching.specs.Sums.{count_to}
 use Rattle.semimatching.proofs.Sums.{sum_same}
-use Rattle.semimatching.proofs.Carrying.{In, along, differ, carried_same, carried-count, chain_few, placed, placed_chain, placed_count}
+use Rattle.semimatching.proofs.Carrying.{In, along, differ, carried_semi, carried_same, carried-count, chain_few, placed, placed_chain, placed_semi, placed_count}
 use Rattle.table.specs.Tally.{Place, Tally, mill_for, mill_of, shop_in, placement, seated}
 use Rattle.search.specs.Rules.{shop_for, PlacedByRule, ShiftedByRule, NothingToShift}
 use Rattle.board.specs.Rules.{Finished}
@@ -31,6 +31,15 @@ placement_placed {meaning} {before} {t = t} {p = p} {mill = mill} rule new =
     ap placement rule.result
     ∙ chain_out shop come mill rule.steps rule.last linked
     ∙ ap (λ at. carried at rule.steps) first
+
+pub sound_placed : {meaning : Meaning} {before after : Tally} {t p mill : ℕ} → Sound meaning before → PlacedByRule meaning before t p after mill → before.seat t ≡ None → Sound meaning after
+sound_placed {meaning} {before} {t = t} {p = p} {mill = mill} sound rule new =
+    let shop = shop_for meaning before t p in
+    let off = ap mill_at new in
+    let apart : (k m : ℕ) → placement before k ≡ Some m → k ≡ t → ⊥ = λ k m on e. let z : ◌≡◌ {A = ℕ} 0 1 = cc in omega arith in
+    let fits : SemiMatching shop (placement before) = λ k m low on. ((sound k m low on).0, cond-false _ _ _ (ne_eqb k t (apart k m on)) ∙ (sound k m low on).1) in
+    subst₂ SemiMatching (sym (shop_placed rule)) (sym (placement_placed rule new))
+    (placed_semi shop (placement before) t mill rule.steps rule.last off rule.choice.chain fits rule.choice.may)
 
 -- the mills of a chain are in service
 chain_serves : (shop : Shop) (at : Placement) (service : ℕ → Bool) → ((t m : ℕ) → shop.can t m ≡ true → service m ≡ true)
@@ -61,6 +70,11 @@ shop_shifted {meaning} {before} rule = ap (shop_in meaning) rule.result ∙ shop
 pub placement_shifted : {meaning : Meaning} {before after : Tally} {r : ℕ} (rule : ShiftedByRule meaning before r after) → placement after ≡ carried (placement before) rule.steps
 placement_shifted {meaning} {before} {r = r} rule =
     ap placement rule.result ∙ chain_out (shop_in meaning before) before rule.from rule.steps r rule.choice.chain.linked
+
+pub sound_shifted : {meaning : Meaning} {before after : Tally} {r : ℕ} → Sound meaning before → ShiftedByRule meaning before r after → Sound meaning after
+sound_shifted {meaning} {before} {r = r} sound rule =
+    subst₂ SemiMatching (sym (shop_shifted rule)) (sym (placement_shifted rule))
+    (carried_semi (shop_in meaning before) (placement before) rule.from rule.steps r sound rule.choice.chain)
 
 differ_off : (o p : Option ℕ) → is_some p ≡ false → differ o p ≡ false
 differ_off None p off = refl

@@ -33,6 +33,14 @@ pub program_carried : (tally : Tally) (steps : List Step) (t : ℕ) → program_
 program_carried tally [] t = refl
 program_carried tally (s ∷ ss) t = program_carried (relocated tally s) ss t ∙ program_relocated tally s t
 
+-- a ticket stands exactly if it has a program
+pub stands_program : (seat : Option Place) → is_some (option_map (λ place. place.program) seat) ≡ is_some seat
+stands_program None = refl
+stands_program (Some place) = refl
+
+pub standing-carried : (tally : Tally) (steps : List Step) (t : ℕ) → is_some ((carried_out tally steps).seat t) ≡ is_some (tally.seat t)
+standing-carried tally steps t = sym (stands_program ((carried_out tally steps).seat t)) ∙ ap is_some (program_carried tally steps t) ∙ stands_program (tally.seat t)
+
 pub service_carried : (tally : Tally) (steps : List Step) → (carried_out tally steps).service ≡ tally.service
 service_carried tally [] = refl
 service_carried tally (s ∷ ss) = service_carried (relocated tally s) ss

@@ -1,5 +1,5 @@
 -- The bits of a number as a set: what the operations on bits hold, and that a number of 64 bits is what it holds.
-use Rattle.std.proofs.Common.{◌≡◌, ℕ, zero, suc, ◌+◌, ◌-◌, ◌/◌, ◌%◌, ◌^◌, ◌<◌, ◌≤◌, Bool, true, false, not, ◌&&◌, ◌||◌, eqb, ltb, sym, refl, ap, ◌∙◌, ap₂, ⊎_elim, lt_of_lt_of_le, mod-lt, zero-lt-suc, pow-suc, div-one, arith, pow_pos, pow_mono, shr-shr}
+use Rattle.std.proofs.Common.{◌≡◌, ℕ, zero, suc, ◌+◌, ◌-◌, ◌/◌, ◌%◌, ◌^◌, ◌<◌, ◌≤◌, true, false, not, ◌&&◌, ◌||◌, eqb, ltb, sym, refl, ap, ◌∙◌, ap₂, ⊎_elim, lt_of_lt_of_le, mod-lt, zero-lt-suc, pow-suc, div-one, arith, pow_pos, pow_mono, shr-shr}
 use native.Mathlib.Nat.{zero-div, div-eq_of_lt}
 use lib.Arith.{lt-one}
 use lib.Bits.{bit_and, bit_or, and_shr, or_shr, and_mod, or_mod}

@@ -1,10 +1,10 @@
 -- The members of a set of 64 bits: how many they are, and the list that a `for` over them gives.
-use Rattle.std.proofs.Common.{◌≡◌, ℕ, zero, suc, ◌+◌, ◌/◌, ◌%◌, ◌^◌, ◌<◌, true, cond, ◌&&◌, eqb, ltb, List, [], ◌∷◌, ◌++◌, length, get_or, sym, refl, ap, ◌∙◌, subst, ap₂, mod-lt, zero-lt-suc, arith}
+use Rattle.std.proofs.Common.{◌≡◌, ℕ, zero, suc, ◌+◌, ◌/◌, ◌%◌, ◌^◌, ◌<◌, true, cond, ◌&&◌, eqb, ltb, List, [], ◌∷◌, ◌++◌, length, get_or, take, sym, refl, ap, ◌∙◌, subst, ap₂, mod-lt, zero-lt-suc, arith}
 use lib.Arith.{lt-one}
 use lib.Count.{ones, ones_step}
 use Rattle.std.specs.Iterator.{Yields}
 use Rattle.std.proofs.lemmas.Iterator.{YieldsList}
-use Rattle.std.proofs.lemmas.List.{append-nil, length-append, get_or_at}
+use Rattle.std.proofs.lemmas.List.{append-nil, length-append, take_at, get_or_at}
 use Rattle.std.proofs.lemmas.Iterator.Consumers.{YieldsList-from_shown}
 use Rattle.std.proofs.lemmas.Bool.{eq-eqb, lt-ltb, ltb-true, and_parts, or_left, or_right}
 use Rattle.sets.specs.Sets.{holds, numbers, has, members, member, Rises, remaining, Step}
@@ -47,6 +47,10 @@ pub members_split : (set : NumberSet) (xs : List ℕ) (here : Members) {made sta
 members_split set xs here {made} {start} e same y = sym e ∙ sym (ap remaining same) ∙ remaining_split start here xs y
 
 module _ (set : NumberSet) (xs : List ℕ) (here : Members) (split : members set ≡ xs ++ remaining here) where
+  -- what has come is a front of the members
+  pub members_so_far : xs ≡ take (length xs) (members set)
+  members_so_far = sym (ap (take (length xs)) split ∙ take_at xs (remaining here) (length xs) refl)
+
   -- at the end all members have come
   pub members_end : remaining here ≡ [] → xs ≡ members set
   members_end e = sym (split ∙ ap (λ l. xs ++ l) e ∙ append-nil xs)

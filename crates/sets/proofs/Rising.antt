@@ -200,6 +200,16 @@ pub length-numbers-insert : (f g : ℕ → Bool) (x n : ℕ) → x < n → f x �
 unfolding numbers
 length-numbers-insert f g x n l out more = length_kept_insert f g x 0 n (omega arith) (omega arith) out more
 
+-- one number fewer
+pub length-numbers-remove : (f g : ℕ → Bool) (x n : ℕ) → x < n → f x ≡ true → ((k : ℕ) → g k ≡ (not (eqb k x) && f k)) → length (numbers f n) ≡ length (numbers g n) + 1
+length-numbers-remove f g x n l here fewer = length-numbers-insert g f x n l (fewer x ∙ ap (λ t. not t && f x) (eq-eqb x x refl)) (λ k. ⊎_elim (same k) (other k) (cases_eq k x))
+  where
+    same : (k : ℕ) → k ≡ x → f k ≡ (eqb k x || g k)
+    same k e = ap f e ∙ here ∙ sym (or_left (eqb k x) (g k) (eq-eqb k x e))
+
+    other : (k : ℕ) → (k ≡ x → ⊥) → f k ≡ (eqb k x || g k)
+    other k d = sym (ap (λ t. t || g k) (ne_eqb k x d) ∙ fewer k ∙ ap (λ t. not t && f k) (ne_eqb k x d))
+
 -- what passes one test passes the other
 pub length-numbers_mono : (f g : ℕ → Bool) (n : ℕ) → ((k : ℕ) → k < n → f k ≡ true → g k ≡ true) → length (numbers f n) ≤ length (numbers g n)
 unfolding numbers

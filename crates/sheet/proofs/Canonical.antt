@@ -159,6 +159,9 @@ canonical text m h = (means text m h).whole 256 refl
 pub lawful_sheet : (text : List ℕ) (m : Meaning) → sheet_of text ≡ Ok m → Lawful m
 lawful_sheet text m h = (means text m h).law
 
+pub some_mills : (text : List ℕ) (m : Meaning) → sheet_of text ≡ Ok m → 1 ≤ m.mills
+some_mills text m h = (means text m h).some
+
 lawful_nothing : Lawful nothing
 lawful_nothing = record { few = omega arith; program = λ p m h. absurd (grind arith); mill = λ p m h. absurd (grind arith) }
 

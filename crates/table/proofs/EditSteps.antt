@@ -1,5 +1,5 @@
 -- What the edits of a table keep.
-use Rattle.std.proofs.Common.{◌≡◌, ℕ, ◌+◌, ◌-◌, ◌<◌, ◌≤◌, min, Bool, true, false, cond, eqb, ltb, List, length, get_or, set, replicate, IfSome, Some, None, Option, sym, refl, ap, ◌∙◌, subst, ⊎_elim, arith}
+use Rattle.std.proofs.Common.{◌≡◌, ℕ, ◌+◌, ◌-◌, ◌<◌, ◌≤◌, min, Bool, true, false, cond, eqb, ltb, List, length, get_or, set, replicate, is_some, IfSome, Some, None, Option, sym, refl, ap, ◌∙◌, subst, ⊎_elim, arith}
 use mathlib.Core.Path.{fun_ext}
 use Rattle.std.specs.Option.{option_map}
 use Rattle.std.proofs.lemmas.List.{get_or_past, get_or-replicate, get_or-set_same, get_or-set_other, length-replicate, length-set}
@@ -16,8 +16,8 @@ use Rattle.table.specs.declared.table.Table.{Table}
 use Rattle.table.specs.Tally.{Tally, opening, placement, shop_in, mill_for, seated, serving}
 use Rattle.table.specs.Seats.{place_of, tally_from, on_mill, share_of}
 use Rattle.table.specs.Held.{meant, tally_of}
-use Rattle.table.proofs.TallyLaws.{Able, able_seated, able_serving, load-seated}
-use Rattle.table.proofs.TableLaws.{placed_few, placed_served, service_few}
+use Rattle.table.proofs.TallyLaws.{Able, able_seated, able_serving, load-seated, seated_same}
+use Rattle.table.proofs.TableLaws.{seat_past, placed_few, placed_served, service_few}
 
 -- ---- the table without tickets
 
@@ -176,3 +176,8 @@ module _ (table : Table) (t : ℕ) (seat : Seat) (stood : Some (place_of seat) �
       let some : 0 < get_or table.loads k 0 = omega (arith, stood_some, ap (λ j. get_or table.loads j 0) at) in
       reseated_counted table t stood_exists None (set table.loads k (get_or table.loads k 0 - 1))
       (λ m. omega (arith, one_fewer table.loads k inside m some, ap (λ place. share place m) on, ap (λ j. cond {A = ℕ} (eqb j m) 1 0) at))
+
+-- a ticket from 1,024 on has no seat and gets none
+pub reseated_past : (table : Table) (t : ℕ) (seat : Option Seat) → (is_some seat ≡ true → is_some ((tally_of table).seat t) ≡ false → t < 1024) → 1024 ≤ t → tally_of table ≡ seated (tally_of table) t (option_map place_of seat)
+reseated_past table t None exists past = sym (seated_same (tally_of table) t) ∙ ap (seated (tally_of table) t) (seat_past table t past)
+reseated_past table t (Some seat) exists past = absurd (omega (arith, exists refl (ap is_some (seat_past table t past))))

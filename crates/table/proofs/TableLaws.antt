@@ -4,6 +4,7 @@ use Rattle.std.specs.Option.{option_map}
 use Rattle.std.proofs.lemmas.List.{get_or_past}
 use Rattle.std.proofs.lemmas.Bool.{cases_lt}
 use Rattle.semimatching.specs.Placements.{SemiMatching, stands_on, load}
+use Rattle.semimatching.proofs.Loads.{load_empty}
 use Rattle.semimatching.proofs.Sums.{count_le}
 use Rattle.table.specs.declared.table.Table.{Table}
 use Rattle.table.specs.Tally.{Place, placement, shop_in}
@@ -37,6 +38,11 @@ module _ (table : Table) where
 
   pub semi : SemiMatching (shop_in (meant table) (tally_of table)) (placement (tally_of table))
   semi t m exists on = (service_few m (placed_served t m on), table.able t m on)
+
+  -- no ticket is on a mill from 64 on
+  pub load_past : (m : ℕ) → 64 ≤ m → load (shop_in (meant table) (tally_of table)) (placement (tally_of table)) m ≡ 0
+  load_past m past =
+      load_empty (shop_in (meant table) (tally_of table)) (placement (tally_of table)) m (λ t exists on. omega (arith, service_few m (placed_served t m on)))
 
   -- at most 1,024 tickets are on a mill
   pub load_few : (m : ℕ) → load (shop_in (meant table) (tally_of table)) (placement (tally_of table)) m ≤ 1024

@@ -1,13 +1,14 @@
--- What seating a ticket or serving a mill does to a tally: to the placement, and to the mills that a ticket may stand on.
+-- What seating a ticket or serving a mill does to a tally: to the placement, to the mills that a ticket may stand on, and to
+-- how many tickets stand.
 use Rattle.std.proofs.Common.{◌≡◌, ℕ, ◌+◌, ◌<◌, ◌≤◌, Bool, true, false, cond, ◌&&◌, eqb, is_some, IfSome, Some, None, Option, sym, refl, ap, ◌∙◌, arith}
 use mathlib.Core.Path.{fun_ext}
 use Rattle.std.specs.Option.{option_map}
-use Rattle.std.proofs.lemmas.Bool.{and_parts, eqb-true, false≢true}
+use Rattle.std.proofs.lemmas.Bool.{and_parts, cond-true, cond-false, eq-eqb, ne_eqb, eqb-true, false≢true}
 use Rattle.capability.specs.Meaning.{Meaning}
 use Rattle.semimatching.specs.Chains.{moved}
 use Rattle.semimatching.specs.Placements.{load}
 use Rattle.semimatching.proofs.Loads.{share, put, load-put}
-use Rattle.semimatching.proofs.Sums.{count_le}
+use Rattle.semimatching.proofs.Sums.{sum_change, count_le}
 use Rattle.table.specs.Tally.{Place, Tally, mill_for, mill_of, shop_in, placement, standing, seated, serving}
 
 -- ---- a choice between two values
@@ -49,6 +50,15 @@ module _ (tally : Tally) (t : ℕ) (place : Option Place) where
       go true = refl
       go false = refl
 
+  pub standing-seated : t < 1024 → standing (seated tally t place) + cond (is_some (tally.seat t)) 1 0 ≡ standing tally + cond (is_some place) 1 0
+  standing-seated exists =
+      let stands : Option Place → ℕ = λ seat. cond (is_some seat) 1 0 in
+      omega (
+        arith,
+        sum_change 1024 (λ k. stands (tally.seat k)) (λ k. stands ((seated tally t place).seat k)) t exists (λ k l other. ap stands (cond-false (eqb k t) place (tally.seat k) (ne_eqb k t other))),
+        ap stands (cond-true (eqb t t) place (tally.seat t) (eq-eqb t t refl)),
+      )
+
 -- a load loses what the ticket's old place gave it, and gains what the new one gives
 pub load-seated : (meaning : Meaning) (tally : Tally) (t : ℕ) (place : Option Place) → t < 1024 → (m : ℕ)
     → load (shop_in meaning (seated tally t place)) (placement (seated tally t place)) m + share (placement tally t) m ≡ load (shop_in meaning tally) (placement tally) m + share (option_map (λ p. p.mill) place) m
@@ -61,6 +71,24 @@ load-seated meaning tally t place exists m =
 
 pub placement-moved : (tally : Tally) (t : ℕ) (place : Place) → placement (seated tally t (Some place)) ≡ moved (placement tally) (record { ticket = t; mill = place.mill })
 placement-moved tally t place = placement-put tally t (Some place)
+
+-- one more stands, one fewer, or as many
+module _ (tally : Tally) (t : ℕ) (exists : t < 1024) where
+  abbrev stands : Option Place → ℕ
+  stands seat = cond (is_some seat) 1 0
+
+  pub standing_added : (place : Place) → tally.seat t ≡ None → standing (seated tally t (Some place)) ≡ standing tally + 1
+  standing_added place away = omega (arith, standing-seated tally t (Some place) exists, ap stands away)
+
+  pub standing_taken : (place : Place) → tally.seat t ≡ Some place → standing (seated tally t None) + 1 ≡ standing tally
+  standing_taken place at = omega (arith, standing-seated tally t None exists, ap stands at)
+
+  pub standing_shifted : (place other : Place) → tally.seat t ≡ Some place → standing (seated tally t (Some other)) ≡ standing tally
+  standing_shifted place other at = omega (arith, standing-seated tally t (Some other) exists, ap stands at)
+
+-- a ticket that is seated where it is
+pub seated_same : (tally : Tally) (t : ℕ) → seated tally t (tally.seat t) ≡ tally
+seated_same tally t i = record { seat = fun_ext (λ k. cond_other (eqb k t) (tally.seat t) (tally.seat k) (λ e. ap tally.seat (sym (eqb-true k t e)))) i; service = tally.service }
 
 -- a ticket that is taken off and seated anew
 pub seated_twice : (tally : Tally) (t : ℕ) (first second : Option Place) → seated (seated tally t first) t second ≡ seated tally t second
@@ -81,6 +109,9 @@ shop_shifted meaning tally t place at mill i = record { tickets = 1024; mills = 
         (λ e. sym (ap (λ seat. mill_of meaning tally.service seat m) (ap tally.seat (eqb-true k t e) ∙ at)))
 
 -- ---- a mill is put into service, or taken out
+
+pub placement-serving : (tally : Tally) (mill : ℕ) (serves : Bool) → placement (serving tally mill serves) ≡ placement tally
+placement-serving tally mill serves = refl
 
 -- of a mill that keeps its service nothing changes
 pub can_serving : (meaning : Meaning) (tally : Tally) (mill : ℕ) (serves : Bool) (k m : ℕ) → (m ≡ mill → serves ≡ tally.service m)
