@@ -30,10 +30,7 @@ pub(crate) fn obey_line<S: Source>(
 {
     match console {
         Console::Setup { pile } => set_up(pile, line, moves),
-        Console::Open { mut board } => {
-            let reply = serve(&mut board, line, moves);
-            (Console::Open { board }, reply)
-        }
+        Console::Open { board } => go_on(board, line, moves),
     }
 }
 
@@ -46,18 +43,17 @@ fn set_up<S: Source>(
     ensures below { below result.0 ≡ pile.source.source }
     ensures line { SetupLine (S.Source.meaning pile.source.source) (state_of (Setup pile)) (setup_command_in line.now) (state_of result.0) (replied result.1) moves.old moves.new }
 {
-    match setup_command(line) {
+    let reply = match setup_command(line) {
         Ok(SetupCommand::Strike { program, mill }) => {
-            let reply = pile.strike(program, mill).map(|()| Reply::Struck);
-            (Console::Setup { pile }, reply)
+            pile.strike(program, mill).map(|()| Reply::Struck)
         }
         Ok(SetupCommand::Alias { program, cut_as }) => {
-            let reply = pile.alias(program, cut_as).map(|()| Reply::Aliased);
-            (Console::Setup { pile }, reply)
+            pile.alias(program, cut_as).map(|()| Reply::Aliased)
         }
-        Ok(SetupCommand::Board { command }) => open_with(pile, command, moves),
-        Err(refusal) => (Console::Setup { pile }, Err(refusal)),
-    }
+        Ok(SetupCommand::Board { command }) => return open_with(pile, command, moves),
+        Err(refusal) => Err(refusal),
+    };
+    (Console::Setup { pile }, reply)
 }
 
 /// Opens a board on the layers, and does what the command asks that opens it.
@@ -75,6 +71,20 @@ fn open_with<S: Source>(
 }
 
 /// A line to a console whose board is open.
+// A function of its own, so that a line to a console that is being set up need not clear the room for another console.
+fn go_on<S>(
+    mut board: Board<Strikes<Aliases<S>>>,
+    line: &[u8],
+    moves: &mut [Move],
+) -> (Console<S>, Result<Reply, Refusal>)
+    ensures below { below result.0 ≡ board.source.source.source }
+    ensures line { OpenLine (state_of (Open board)) (record { meaning = meant_by board; tally = tally_on board }) (board_command_in line.now) (state_of result.0) (replied result.1) moves.old moves.new }
+{
+    let reply = serve(&mut board, line, moves);
+    (Console::Open { board }, reply)
+}
+
+/// Does on an open board what a line asks, and tells the reply, or why the line is refused.
 fn serve<S>(
     board: &mut Board<Strikes<Aliases<S>>>,
     line: &[u8],
